@@ -1,0 +1,4 @@
+pub mod Members
+pub mod Crossing
+pub mod Ties
+pub mod Levels

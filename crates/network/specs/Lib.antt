@@ -1,0 +1,9 @@
+pub mod Lines
+pub mod Sides
+pub mod Cuts
+pub mod Groups
+pub mod Lists
+pub mod Routes
+pub mod Flow
+pub mod Answers
+pub mod Laws
