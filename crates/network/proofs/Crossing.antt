@@ -90,5 +90,12 @@ either m w i = m i || w i
 pub submodular : (m w : ℕ → Bool) (ls : List Line) → crossing-by (both m w) ls + crossing-by (either m w) ls ≤ crossing-by m ls + crossing-by w ls
 submodular m w [] = omega (arith, crossing-nil (both m w), crossing-nil (either m w))
 submodular m w (l ∷ ls) =
-    omega (arith, crossing-cons (both m w) l ls, crossing-cons (either m w) l ls, crossing-cons m l ls, crossing-cons w l ls,
-    both-add (is-free (l .state)) (m (l .first)) (m (l .second)) (w (l .first)) (w (l .second)), submodular m w ls)
+    omega (
+      arith,
+      crossing-cons (both m w) l ls,
+      crossing-cons (either m w) l ls,
+      crossing-cons m l ls,
+      crossing-cons w l ls,
+      both-add (is-free (l .state)) (m (l .first)) (m (l .second)) (w (l .first)) (w (l .second)),
+      submodular m w ls,
+    )

@@ -35,8 +35,9 @@ unfolding least
 least-le ls a b zero s h p = absurd (let z : ⊥ = omega arith in z)
 least-le ls a b (suc t) s h p =
     elim (cases-eq s t) [
-      inl e ↦ rw e (lesser-here _ _ _ (rw e at p))
-    | inr n ↦ omega (arith, lesser-le (differ (member t a) (member t b)) (crossing ls t) (least ls a b t), least-le ls a b t s (omega arith) p) ]
+      | inl e ↦ rw e (lesser-here _ _ _ (rw e at p))
+      | inr n ↦ omega (arith, lesser-le (differ (member t a) (member t b)) (crossing ls t) (least ls a b t), least-le ls a b t s (omega arith) p)
+    ]
 
 -- the level is at most what any side crosses that parts the two
 pub level-le : (n : ℕ) (ls : List Line) (a b s : ℕ) → s < 2 ^ n → differ (member s a) (member s b) ≡ true → level-of n ls a b ≤ crossing ls s
@@ -48,15 +49,16 @@ abbrev pub Met : List Line → ℕ → ℕ → ℕ → ℕ → Type 0
 Met ls a b bound v = (s : ℕ) × (s < bound) × (differ (member s a) (member s b) ≡ true) × (v ≡ crossing ls s)
 
 lesser-met : (ls : List Line) (a b t r : ℕ) (d : Bool) → differ (member t a) (member t b) ≡ d → (r ≡ length ls) ⊎ Met ls a b t r
-  → (lesser d (crossing ls t) r ≡ length ls) ⊎ Met ls a b (suc t) (lesser d (crossing ls t) r)
+    → (lesser d (crossing ls t) r ≡ length ls) ⊎ Met ls a b (suc t) (lesser d (crossing ls t) r)
 lesser-met ls a b t r false e (inl h) = inl h
 lesser-met ls a b t r false e (inr h) = inr (h .0, omega (arith, h .1), h .2, h .3)
 lesser-met ls a b t r true e (inl h) =
     inr (t, omega arith, e, omega (arith, crossing-le-length (member t) ls))
 lesser-met ls a b t r true e (inr h) =
     elim (cases-lt (crossing ls t) r) [
-      inl l ↦ inr (t, omega arith, e, omega arith)
-    | inr l ↦ inr (h .0, omega (arith, h .1), h .2, omega (arith, h .3)) ]
+      | inl l ↦ inr (t, omega arith, e, omega arith)
+      | inr l ↦ inr (h .0, omega (arith, h .1), h .2, omega (arith, h .3))
+    ]
 
 -- either no side below the bound parts the two, or one attains the least crossing
 pub least-met : (ls : List Line) (a b bound : ℕ) → (least ls a b bound ≡ length ls) ⊎ Met ls a b bound (least ls a b bound)
@@ -81,8 +83,12 @@ level-met n ls a b la lb ne = elim (least-met ls a b (2 ^ n)) [ inl e ↦ full e
     parts = rw (member-sideOf n (alone a) a la, member-sideOf n (alone a) b lb) (alone-parts a b ne)
 
     full : least ls a b (2 ^ n) ≡ length ls → Met ls a b (2 ^ n) (least ls a b (2 ^ n))
-    full e = (sideOf n (alone a), sideOf-below n (alone a), parts,
-        omega (arith, e, crossing-le-length (member (sideOf n (alone a))) ls, least-le ls a b (2 ^ n) (sideOf n (alone a)) (sideOf-below n (alone a)) parts))
+    full e = (
+      sideOf n (alone a),
+      sideOf-below n (alone a),
+      parts,
+      omega (arith, e, crossing-le-length (member (sideOf n (alone a))) ls, least-le ls a b (2 ^ n) (sideOf n (alone a)) (sideOf-below n (alone a)) parts),
+    )
 
 -- the level in terms of sets of places
 pub tied-from-level : (n : ℕ) (ls : List Line) (k a b : ℕ) → AllJoin n ls → a < n → b < n → k ≤ level-of n ls a b → Tied (count-of ls) k a b

@@ -99,18 +99,21 @@ module _ (c : (ℕ → Bool) → ℕ) (sub : SubmodularCount c) (X : ℕ → Boo
   corners : (C : ℕ → Bool) → C u ≡ C v → C s ≡ C t → differ (C u) (C s) ≡ true → k ≤ c C
   corners C e f d =
       elim (cases-bool (C u)) [
-        inl p ↦ (let q : C s ≡ false = differ-yes _ _ d p in outer-corner C p (sym e ∙ p) q (sym f ∙ q))
-      | inr p ↦ (let q : C s ≡ true = differ-no _ _ d p in inner-corner C p (sym e ∙ p) q (sym f ∙ q)) ]
+        | inl p ↦ (let q : C s ≡ false = differ-yes _ _ d p in outer-corner C p (sym e ∙ p) q (sym f ∙ q))
+        | inr p ↦ (let q : C s ≡ true = differ-no _ _ d p in inner-corner C p (sym e ∙ p) q (sym f ∙ q))
+      ]
 
   any : (C : ℕ → Bool) → (differ (C u) (C s) ≡ true) ⊎ (differ (C t) (C v) ≡ true) → k ≤ c C
   unfolding Tied
   any C d =
       elim (cases-bool (differ (C u) (C v))) [
-        inl p ↦ h C p
-      | inr p ↦ elim (cases-bool (differ (C s) (C t))) [
-          inl q ↦ step-across C q
-        | inr q ↦ (let e = differ-false _ _ p in let f = differ-false _ _ q in
-            corners C e f (elim d [ inl g ↦ g | inr g ↦ rw (e, f) (differ-comm (C v) (C t) ∙ g) ])) ] ]
+        | inl p ↦ h C p
+        | inr p ↦ elim (cases-bool (differ (C s) (C t))) [
+          | inl q ↦ step-across C q
+          | inr q ↦ (let e = differ-false _ _ p in let f = differ-false _ _ q in
+              corners C e f (elim d [ inl g ↦ g | inr g ↦ rw (e, f) (differ-comm (C v) (C t) ∙ g) ]))
+        ]
+      ]
 
   pub step-inside : Tied c k u s
   unfolding Tied

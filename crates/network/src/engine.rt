@@ -14,6 +14,13 @@ pub struct SiteWork {
 /// A flow engine: how many separate routes of free lines lead from place `a` to place `b`, and a side that shows that
 /// there are no more. `marks` then says which lines carry a route, and in which direction.
 pub trait Engine {
-    fn flow(sites: usize, lines: &[Line], a: usize, b: usize, marks: &mut [u8], work: &mut [SiteWork]) -> (usize, u64)
+    fn flow(
+        sites: usize,
+        lines: &[Line],
+        a: usize,
+        b: usize,
+        marks: &mut [u8],
+        work: &mut [SiteWork],
+    ) -> (usize, u64)
         ensures { λ r. ⌜ Answer sites (now (lines .entry)) a b (now (marks .entry)) (now (marks .exit)) (now (work .entry)) (now (work .exit)) r ⌝ };
 }
