@@ -1,4 +1,17 @@
 pub mod Members
+pub mod Digits
 pub mod Crossing
 pub mod Ties
 pub mod Levels
+pub mod Parting
+pub mod Lowest
+pub mod Entries
+pub mod Groups
+pub mod GroupList
+pub mod Sums
+pub mod Duality
+pub mod Lists
+pub mod Chains
+pub mod ReadBack
+pub mod Routed
+pub mod Withstood

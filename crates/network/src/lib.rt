@@ -1,5 +1,7 @@
 mod engine;
+pub mod laws;
 mod line;
+pub mod side;
 mod site;
 
 pub use engine::Engine;
