@@ -1,19 +1,18 @@
 -- Marks that carry v from a to b: no set of places that parts the two is crossed by fewer than v free lines, so that
 -- the value that an engine answers is the level.
-use mathlib.Core.Path.{_≡_, refl, sym, ap}
+use mathlib.Core.Path.{_≡_, sym, ap}
 use mathlib.Core.List.{List}
-use mathlib.Core.Bool.{Bool, true, false, not, cond, _&&_}
-use mathlib.Core.Logic.{_⊎_, inl, inr, _≢_}
+use mathlib.Core.Bool.{Bool, true, false, not, cond}
+use mathlib.Core.Logic.{inl, inr, _≢_}
 use Prim.Native.Nat.{ℕ, _+_, _<_, _≤_}
 use native.Mathlib.Omega.{arith}
-use lib.Dec.{eqb, ltb}
 use Rattle.std.proofs.shelf.Tests.{cases-bool}
 use Rattle.std.proofs.shelf.Ways.{tells}
 use Rattle.network.specs.declared.line.Line.{Line}
-use Rattle.network.specs.Lines.{is-free, line-at, Joins, AllJoin}
+use Rattle.network.specs.Lines.{line-at, Joins, AllJoin}
 use Rattle.network.specs.Cuts.{crosses, crossing-by, level-of}
 use Rattle.network.specs.Flow.{mark-at, one, leaves, arrives, outs, ins, Marked}
-use Rattle.network.specs.Answers.{Task, PartedBy, Carries, Answer}
+use Rattle.network.specs.Answers.{PartedBy, Carries}
 use Rattle.network.specs.Laws.{ValueIsLevel}
 use Rattle.network.proofs.Crossing.{crossing-not}
 use Rattle.network.proofs.Ties.{Tied, differ-yes, differ-no, differ-parts}

@@ -1,23 +1,22 @@
 -- Different entries of a list that is made from a function of the index.
-use mathlib.Core.Path.{_≡_, refl, sym, ap, ap₂, _∙_}
+use mathlib.Core.Path.{_≡_, refl, sym, ap, _∙_}
 use mathlib.Core.List.{List, [], _∷_, _++_, map}
-use mathlib.Core.Bool.{Bool, true, false, not, _||_, cond}
-use mathlib.Core.Logic.{_⊎_, inl, inr, _≢_}
+use mathlib.Core.Bool.{Bool, true, false, _||_, cond}
+use mathlib.Core.Logic.{inl, inr, _≢_}
 use Prim.Native.Nat.{ℕ, zero, suc, _+_, _≤_, _<_}
 use native.Mathlib.Numerals.{add-one}
 use native.Mathlib.Omega.{arith}
 use lib.Dec.{eqb}
 use Rattle.std.specs.Iters.{counting}
-use Rattle.std.proofs.shelf.Counted.{map-counting-more}
-use Rattle.std.proofs.shelf.Tests.{cases-eq, eq-eqb, ne-eqb, or-left, or-right}
-use Rattle.std.proofs.shelf.Ways.{tells}
+use Rattle.std.proofs.shelf.Counted.{map-counting-more, length-map-counting, getD-map-counting}
+use Rattle.std.proofs.shelf.Tests.{cases-bool, cases-eq, eq-eqb, ne-eqb}
 use Rattle.network.specs.Lists.{among, different}
 use Rattle.network.specs.Groups.{tally}
+use Rattle.network.proofs.Lists.{among-append, among-getD, among-index}
 
-pub among-last : (xs : List ℕ) (y x : ℕ) → among (xs ++ y ∷ []) x ≡ (among xs x || eqb y x)
+among-last : (xs : List ℕ) (y x : ℕ) → among (xs ++ y ∷ []) x ≡ (among xs x || (eqb y x || false))
 unfolding among
-among-last [] y x = grind (arith, tells)
-among-last (z ∷ xs) y x = let e = among-last xs y x in grind (arith, tells)
+among-last xs y x = among-append xs (y ∷ []) x
 
 -- of x and y, in front of a list and behind it, one more is different where they are unequal
 exchange : (s t : Bool) (d : ℕ) → cond (s || false) 0 1 + (d + cond t 0 1) ≡ cond s 0 1 + d + cond t 0 1
@@ -43,21 +42,19 @@ different-last (x ∷ xs) y =
 pub map-more : (f : ℕ → ℕ) (m : ℕ) → map f (counting 0 (suc m)) ≡ map f (counting 0 m) ++ f m ∷ []
 map-more f m = ap (λ (x : ℕ). map f (counting 0 x)) (sym (add-one m)) ∙ map-counting-more f 0 m m (omega arith)
 
-pub among-hit : (f : ℕ → ℕ) (m i y : ℕ) → i < m → f i ≡ y → among (map f (counting 0 m)) y ≡ true
-among-hit f zero i y h e = absurd (omega arith)
-among-hit f (suc m) i y h e =
-    ap (λ xs. among xs y) (map-more f m) ∙ among-last (map f (counting 0 m)) (f m) y
-    ∙ elim (cases-eq i m) [
-      | inl q ↦ or-right _ _ (eq-eqb (f m) y (ap f (sym q) ∙ e))
-      | inr q ↦ or-left _ _ (among-hit f m i y (omega arith) e)
-    ]
+among-hit : (f : ℕ → ℕ) (m i : ℕ) → i < m → among (map f (counting 0 m)) (f i) ≡ true
+among-hit f m i h =
+    ap (among (map f (counting 0 m))) (sym (getD-map-counting f 0 m i i 0 h (omega arith)))
+    ∙ among-getD (map f (counting 0 m)) i 0 (omega (arith, length-map-counting f 0 m))
 
-pub among-miss : (f : ℕ → ℕ) (m y : ℕ) → ((i : ℕ) → i < m → f i ≢ y) → among (map f (counting 0 m)) y ≡ false
-unfolding among
-among-miss f zero y h = refl
-among-miss f (suc m) y h =
-    ap (λ xs. among xs y) (map-more f m) ∙ among-last (map f (counting 0 m)) (f m) y
-    ∙ ap₂ _||_ (among-miss f m y (λ i l. h i (omega arith))) (ne-eqb (f m) y (h m (omega arith)))
+among-miss : (f : ℕ → ℕ) (m y : ℕ) → ((i : ℕ) → i < m → f i ≢ y) → among (map f (counting 0 m)) y ≡ false
+among-miss f m y none =
+    elim (cases-bool (among (map f (counting 0 m)) y)) [
+      | inl h ↦ absurd (let w = among-index (map f (counting 0 m)) y 0 h in
+          let l : w .0 < m = omega (arith, w .1, length-map-counting f 0 m) in
+          none (w .0) l (sym (getD-map-counting f 0 m (w .0) (w .0) 0 l (omega arith)) ∙ w .2))
+      | inr h ↦ h
+    ]
 
 -- where f x is at most x and f leaves it there, the different entries are the numbers that f leaves
 module _ (f : ℕ → ℕ) (n : ℕ) (low : (x : ℕ) → x < n → f x ≤ x) (stays : (x : ℕ) → x < n → f (f x) ≡ f x) where
@@ -65,7 +62,7 @@ module _ (f : ℕ → ℕ) (n : ℕ) (low : (x : ℕ) → x < n → f x ≤ x) (
   new-entry m h =
       elim (cases-eq (f m) m) [
         | inl e ↦ rw (eq-eqb (f m) m e, among-miss f m (f m) (λ i l q. omega (arith, low i (omega arith))))
-        | inr e ↦ rw (ne-eqb (f m) m e, among-hit f m (f m) (f m) (omega (arith, low m h)) (stays m h))
+        | inr e ↦ rw (ne-eqb (f m) m e, sym (ap (among (map f (counting 0 m))) (stays m h)) ∙ among-hit f m (f m) (omega (arith, low m h)))
       ]
 
   pub tally-different : (m : ℕ) → m ≤ n → tally (λ x. eqb (f x) x) m ≡ different (map f (counting 0 m))

@@ -2,20 +2,16 @@
 use mathlib.Core.Path.{_≡_, refl, sym, ap, _∙_}
 use mathlib.Core.List.{List}
 use mathlib.Core.Bool.{Bool, true, false}
-use mathlib.Core.Logic.{_⊎_, inl, inr}
 use Prim.Native.Nat.{ℕ, _≤_, _<_}
 use native.Mathlib.Omega.{arith}
-use lib.Dec.{eqb}
-use lib.ListN.{length, getD}
+use lib.ListN.{getD}
 use Rattle.std.proofs.shelf.Counted.{length-map-counting, getD-map-counting}
-use Rattle.std.proofs.shelf.Tests.{cases-bool, false≢true}
 use Rattle.network.specs.declared.line.Line.{Line}
 use Rattle.network.specs.Lines.{AllJoin}
-use Rattle.network.specs.Sides.{member}
-use Rattle.network.specs.Groups.{Share, near, lowest, group-list}
+use Rattle.network.specs.Groups.{near, lowest, group-list}
 use Rattle.network.specs.Laws.{LowestOf, Listed, GroupsListed}
 use Rattle.network.proofs.Levels.{count-of}
-use Rattle.network.proofs.Ties.{Tied, tied-sym, tied-trans}
+use Rattle.network.proofs.Ties.{tied-sym, tied-trans}
 use Rattle.network.proofs.Lowest.{lowest-holds, lowest-none, lowest-first, lowest-same}
 use Rattle.network.proofs.Entries.{tally-different}
 use Rattle.network.proofs.Groups.{near-self, tied-from-near, near-from-tied, group-of, member-group, group-around, shares, near-shared}

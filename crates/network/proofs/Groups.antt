@@ -1,18 +1,15 @@
--- Groups: the places near a place make its group, two places share one where they are near, and the group list.
-use mathlib.Core.Path.{_≡_, refl, sym, ap, subst, _∙_}
-use mathlib.Core.List.{List, [], _∷_, map}
-use mathlib.Core.Bool.{Bool, true, false, _||_, cond}
-use mathlib.Core.Logic.{_⊎_, inl, inr, _≢_, _↔_}
-use Prim.Native.Nat.{ℕ, zero, suc, _+_, _^_, _≤_, _<_}
-use native.Mathlib.Omega.{arith}
-use lib.Dec.{eqb, leb, ltb}
-use lib.ListN.{length, getD}
-use Rattle.std.proofs.shelf.Tests.{cases-bool, cases-eq, cases-lt, eqb-true, eq-eqb, leb-true, le-leb, or-cases, or-left, or-right, false≢true}
+-- Groups: the places near a place make its group, and two places share one where they are near.
+use mathlib.Core.Path.{_≡_, refl, sym, subst, _∙_}
+use mathlib.Core.List.{List}
+use mathlib.Core.Bool.{true}
+use mathlib.Core.Logic.{inl, inr}
+use Prim.Native.Nat.{ℕ, _^_, _≤_, _<_}
+use Rattle.std.proofs.shelf.Tests.{cases-eq, cases-lt, eqb-true, eq-eqb, leb-true, le-leb, or-cases, or-left, or-right, false≢true}
 use Rattle.network.specs.declared.line.Line.{Line}
 use Rattle.network.specs.Lines.{AllJoin}
 use Rattle.network.specs.Sides.{member}
 use Rattle.network.specs.Cuts.{level-of}
-use Rattle.network.specs.Groups.{Together, Inside, Group, Share, near}
+use Rattle.network.specs.Groups.{Group, Share, near}
 use Rattle.network.specs.Laws.{Shared}
 use Rattle.network.proofs.Members.{sideOf, sideOf-below, member-sideOf, member-past}
 use Rattle.network.proofs.Levels.{count-of, tied-from-level, level-from-tied}

@@ -2,9 +2,9 @@
 -- level.
 use mathlib.Core.Path.{_≡_, sym, ap, _∙_}
 use mathlib.Core.List.{List}
-use mathlib.Core.Bool.{Bool, true, false, not, _&&_, _||_}
-use mathlib.Core.Logic.{_⊎_, inl, inr, _≢_}
-use Prim.Native.Nat.{ℕ, _+_, _-_, _^_, _≤_, _<_, min}
+use mathlib.Core.Bool.{not}
+use mathlib.Core.Logic.{inl, inr}
+use Prim.Native.Nat.{ℕ, _-_, _^_, _<_, min}
 use native.Mathlib.Omega.{arith}
 use lib.Bits.{bitAnd, bitOr, bitXor, xor-lt}
 use lib.Pow.{ones-lt}
@@ -12,7 +12,7 @@ use Rattle.std.proofs.shelf.Tests.{cases-bool, lt-ltb}
 use Rattle.network.specs.declared.line.Line.{Line}
 use Rattle.network.specs.Lines.{AllJoin}
 use Rattle.network.specs.Sides.{member, differ}
-use Rattle.network.specs.Cuts.{crossing-by, crossing, level-of}
+use Rattle.network.specs.Cuts.{crossing, level-of}
 use Rattle.network.specs.Answers.{PartedBy}
 use Rattle.network.specs.Laws.{Attained, ByThird, Submodular}
 use Rattle.network.proofs.Members.{member-xor, member-ones, member-and, member-or}

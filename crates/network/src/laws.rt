@@ -2,8 +2,9 @@
 
 ghost use Rattle.network.specs.Laws.{Bounding, Attained, Symmetric, ByThird, Submodular, Shared, GroupsListed, ValueIsLevel, ReadBack, Routed, Withstood};
 
-/// The level of two places is the fewest free lines that part them; it does not depend on their order; no third place
-/// has a higher level with both; two sides are crossed by at least as many as their intersection and their union.
+/// The level of two places is the fewest free lines that cross a side with one of them; it does not depend on their
+/// order, and is at least the smaller of their levels with any third place. Two sides are crossed by at least as many
+/// free lines as their intersection and their union.
 pub fn level_laws()
     ensures bounding { λ _. ⌜ Bounding ⌝ }
     ensures attained { λ _. ⌜ Attained ⌝ }

@@ -1,0 +1,4 @@
+pub mod Taking
+pub mod Shapes
+pub mod Walks
+pub mod Draws
