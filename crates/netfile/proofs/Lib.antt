@@ -1,0 +1,12 @@
+pub mod Lowest
+pub mod Rising
+pub mod Numbers
+pub mod Accepted
+pub mod Ends
+pub mod Tables
+pub mod Chain
+pub mod FileChecks
+pub mod RecordChecks
+pub mod NetworkChecks
+pub mod FaultLaws
+pub mod Networks
