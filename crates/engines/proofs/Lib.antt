@@ -1,0 +1,9 @@
+pub mod Arcs
+pub mod Rounds
+pub mod Walks
+pub mod Cuts
+pub mod Moves
+pub mod Accounts
+pub mod Gaps
+pub mod Pushes
+pub mod Openings
