@@ -1,0 +1,11 @@
+pub mod Climbing
+pub mod Rooting
+pub mod Splitting
+pub mod Growing
+pub mod Hanging
+pub mod Pairs
+pub mod Sizes
+pub mod Joining
+pub mod Building
+pub mod Listing
+pub mod AnyCount

@@ -1,0 +1,4 @@
+pub mod Nodes
+pub mod Splits
+pub mod Trees
+pub mod Laws
