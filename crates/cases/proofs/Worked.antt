@@ -23,10 +23,10 @@ use Rattle.cases.specs.Table.{worked, relayed, WorkedCases}
 use Rattle.cases.proofs.Steps.{Onward, Stepped, onward-from-route, stepped, at-end}
 
 -- one of the five lines
-abbrev OneOf : ℕ → Type 0
+abbrev pub OneOf : ℕ → Type 0
 OneOf p = (p ≡ 0) ⊎ ((p ≡ 1) ⊎ ((p ≡ 2) ⊎ ((p ≡ 3) ⊎ (p ≡ 4))))
 
-one-of : (p : ℕ) → p < 5 → OneOf p
+pub one-of : (p : ℕ) → p < 5 → OneOf p
 one-of p h = elim (cases-eq p 0) [
   | inl e ↦ inl e
   | inr n0 ↦ inr (elim (cases-eq p 1) [

@@ -1,1 +1,4 @@
 pub mod Table
+pub mod File
+pub mod Ledgers
+pub mod Outcomes
