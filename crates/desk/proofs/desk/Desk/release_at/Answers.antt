@@ -18,7 +18,7 @@ pub lost-requires : need.lost-requires
 lost-requires g c κs =
     let d = c .args .self .now in
     let q = good-of d (c .args .place) (c .remove .result) (c .pre) (c .remove .ensures .value) in
-    never-denied (d .book) (c .remove .result .ticket) (c .release .last .self) (c .in-Err .denied) (q .mark) (q .stands-there) (c .in-Err .ensures tt)
+    absurd (never-denied (d .book) (c .remove .result .ticket) (c .release .last .self) (c .in-Err .denied) (q .mark) (q .stands-there) (c .in-Err .ensures tt))
 
 pub returns-in-Ok : need.returns-in-Ok
 returns-in-Ok g c =
