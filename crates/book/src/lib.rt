@@ -1,3 +1,5 @@
+#![tactic(auto)]
+
 mod changes;
 mod fault;
 mod held;

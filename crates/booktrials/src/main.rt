@@ -1,5 +1,7 @@
 //! Runs the line book through its trials on both engines and says what came of each.
 
+#![tactic(auto)]
+
 mod dice;
 mod lists;
 mod log;

@@ -1,6 +1,8 @@
 //! Calls for programs in C and C++. Each takes the bytes of a network file and the number of an engine, does its work so
 //! many times that it can be timed, and answers 0 or the number of what stood against it.
 
+#![tactic(auto)]
+
 ghost use Rattle.capi.specs.Calls.{LevelsTold, BookingsTold, GroupsTold};
 
 use crate::answer::NO_ENGINE;

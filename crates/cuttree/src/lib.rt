@@ -1,3 +1,5 @@
+#![tactic(auto)]
+
 mod builder;
 mod groups;
 pub mod laws;

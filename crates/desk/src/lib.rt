@@ -1,5 +1,7 @@
 //! A desk keeps a line book and the tickets of its bookings, so that every release that it makes is accepted.
 
+#![tactic(auto)]
+
 mod desk;
 mod pass;
 mod passes;

@@ -1,3 +1,5 @@
+#![tactic(auto)]
+
 mod push;
 mod residual;
 mod search;

@@ -1,3 +1,5 @@
+#![tactic(auto)]
+
 mod engine;
 pub mod laws;
 mod line;

@@ -1,5 +1,7 @@
 //! How replies are written: rows of sites, lines, sides, routes and denials, and the network as Graphviz reads it.
 
+#![tactic(auto)]
+
 mod callsign;
 mod graph;
 mod rows;

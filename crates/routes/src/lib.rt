@@ -1,5 +1,7 @@
 //! Routes out of an engine's marks.
 
+#![tactic(auto)]
+
 mod arcs;
 mod fitness;
 mod taking;

@@ -1,6 +1,8 @@
 //! Runs the cases of a table, one on a line: what is done, the case's name, the bytes of a file, and numbers. It prints
 //! the name, and what came out. `tables.py` writes the table, and what has to come out.
 
+#![tactic(auto)]
+
 mod answers;
 mod files;
 mod flows;

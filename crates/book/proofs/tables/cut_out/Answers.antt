@@ -16,7 +16,7 @@ returns c = record {
   items =
       (let xs = vec_items c.args.shown.now in
       let n : c.len-all.result ≡ length xs = search rules in
-      c.truncate.ensures.items ∙ ap (take (c.len-all.result - c.args.length)) c.copy-within.ensures.items ∙ closed xs c.len-all.result c.args.from c.args.length n (search rules));
+      c.truncate.ensures.items ∙ ap (take (c.len-all.result - c.args.length)) c.copy_within.ensures.items ∙ closed xs c.len-all.result c.args.from c.args.length n (search rules));
   len = search rules;
   capacity = search rules;
 }

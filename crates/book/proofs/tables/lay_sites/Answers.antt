@@ -11,27 +11,27 @@ lay-init c = (nil_from_length (vec_items c.args.sites.now) (omega (arith, c.requ
 pub lay-preserved : goal.lay-preserved
 lay-preserved c =
     let xs = sites_in c.args.file.now.bytes.now in
-    let inside : c.lay.i < length xs = omega (arith, c.site-count-i-end.ensures c.requires.accepted, c.lay-test.true) in (
-      laid_more xs (vec_items c.lay.sites) (vec_items c.push-reserved.new.self) c.lay.i c.in-Some.site no_call_sign inside c.lay.invariant.0
-          (c.in-Some.ensures c.requires.accepted) c.push-reserved.ensures.items,
-      c.push-reserved.ensures.capacity ∙ c.lay.invariant.1,
+    let inside : c.lay.i < length xs = omega (arith, c.site_count-i-end.ensures c.requires.accepted, c.lay-test.true) in (
+      laid_more xs (vec_items c.lay.sites) (vec_items c.push_reserved.new.self) c.lay.i c.in-Some.site no_call_sign inside c.lay.invariant.0
+          (c.in-Some.ensures c.requires.accepted) c.push_reserved.ensures.items,
+      c.push_reserved.ensures.capacity ∙ c.lay.invariant.1,
     )
 
-pub push-reserved-requires : goal.push-reserved-requires
-push-reserved-requires c =
+pub push_reserved-requires : goal.push_reserved-requires
+push_reserved-requires c =
     let xs = sites_in c.args.file.now.bytes.now in
-    let inside : c.lay.i < length xs = omega (arith, c.site-count-i-end.ensures c.requires.accepted, c.lay-test.true) in
+    let inside : c.lay.i < length xs = omega (arith, c.site_count-i-end.ensures c.requires.accepted, c.lay-test.true) in
     omega (arith, inside, c.lay.sites.ok.0, ap length c.lay.invariant.0, length-take-le c.lay.i xs (omega (arith, inside)), c.lay.invariant.1, c.requires.room)
 
 pub unreachable-requires : goal.unreachable-requires
 unreachable-requires c =
     let xs = sites_in c.args.file.now.bytes.now in
-    laid_there xs c.lay.i no_call_sign (omega (arith, c.site-count-i-end.ensures c.requires.accepted, c.lay-test.true)) (c.in-None.ensures c.requires.accepted)
+    laid_there xs c.lay.i no_call_sign (omega (arith, c.site_count-i-end.ensures c.requires.accepted, c.lay-test.true)) (c.in-None.ensures c.requires.accepted)
 
 pub returns : goal.returns
 returns c =
     let xs = sites_in c.args.file.now.bytes.now in
     record {
-      items = c.lay.invariant.0 ∙ take_all c.lay.i xs (omega (arith, c.site-count-i-end.ensures c.requires.accepted, c.lay-test.false));
+      items = c.lay.invariant.0 ∙ take_all c.lay.i xs (omega (arith, c.site_count-i-end.ensures c.requires.accepted, c.lay-test.false));
       capacity = c.lay.invariant.1;
     }

@@ -9,8 +9,8 @@ pub again-preserved : goal.again-preserved
 again-preserved g c =
     let w = c.args.wish in
     let inv = c.again.invariant in
-    let t = turned c.again.desk c.book-routes.new.self c.release-next.new.self w.first w.second w.k c.again.turn c.in-Ok.field-0
-    c.release-next.result inv.0 c.in-Ok.ensures c.release-next.ensures in (
+    let t = turned c.again.desk c.book_routes.new.self c.release_next.new.self w.first w.second w.k c.again.turn c.in-Ok.field-0
+    c.release_next.result inv.0 c.in-Ok.ensures c.release_next.ensures in (
       t.0,
       t.1 ∙ inv.1,
       t.2 ∙ inv.2,

@@ -5,8 +5,8 @@ use Rattle.network.specs.Lines.{line_at}
 use Rattle.book.proofs.Files.{file_facts}
 use Rattle.capi.proofs.bookings.bookings_over.Goals as goal
 
-pub bookings-at-answer-requires : goal.bookings-at-answer-requires
-bookings-at-answer-requires g c =
+pub bookings_at-answer-requires : goal.bookings_at-answer-requires
+bookings_at-answer-requires g c =
     let ready = c.in-Ok.ensures in
     record {
       passes = ready.passes;

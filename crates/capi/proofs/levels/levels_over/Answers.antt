@@ -7,8 +7,8 @@ use Rattle.cuttree.specs.Trees.{Lawful}
 use Rattle.capi.proofs.Files.{lawful_file}
 use Rattle.capi.proofs.levels.levels_over.Goals as goal
 
-pub levels-of-answer-requires : goal.levels-of-answer-requires
-levels-of-answer-requires g c =
+pub levels_of-answer-requires : goal.levels_of-answer-requires
+levels_of-answer-requires g c =
     let ready = c.in-Ok.ensures in
     let bs = c.args.bytes.now in
     let ss : c.sites.result.now ≡ sites_in bs = c.sites.ensures ∙ ap sites_of c.book-book.ensures ∙ ready.sites in

@@ -3,8 +3,8 @@ use Rattle.book.specs.Calls.{ticket_check}
 use Rattle.cases.proofs.Following.{never, release_passes, groups_then, three_returned}
 use Rattle.cases.proofs.calls.with_three.Goals as goal
 
-pub once-returned-requires : goal.once-returned-requires
-once-returned-requires g c = three_returned c.args.book.now c.release.new.self c.args.ticket c.requires c.in-Ok.ensures
+pub once_returned-requires : goal.once_returned-requires
+once_returned-requires g c = three_returned c.args.book.now c.release.new.self c.args.ticket c.requires c.in-Ok.ensures
 
 pub lost-requires : goal.lost-requires
 lost-requires g c =
@@ -13,7 +13,7 @@ lost-requires g c =
 pub returns-in-Ok : goal.returns-in-Ok
 returns-in-Ok g c =
     let l = groups_then c.args.book.now c.args.ticket (0 ∷ 0 ∷ 0 ∷ 0 ∷ []) c.groups.new.list c.groups.result c.requires refl c.groups.ensures.lawful in
-    record { opened = refl; three_booked = refl; listed = c.is-ok-listed.ensures.value ∙ l.0; entries = l.1; released = refl; four_denied = c.once-returned.ensures }
+    record { opened = refl; three_booked = refl; listed = c.is_ok-listed.ensures.value ∙ l.0; entries = l.1; released = refl; four_denied = c.once_returned.ensures }
 
 pub returns-in-Err : goal.returns-in-Err
 returns-in-Err g c = absurd

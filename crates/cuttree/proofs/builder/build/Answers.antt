@@ -10,33 +10,33 @@ use Rattle.cuttree.proofs.builder.build.Goals as goal
 
 pub new-requires : goal.new-requires
 new-requires g c =
-    let lawful = c.if-not-is-lawful.ensures in
+    let lawful = c.if-not-is_lawful.ensures in
     let some : 0 < min c.args.sites 64 = omega (arith, lawful.some_site) in
-    c.all-below.ensures.places 0 ∙ lt-ltb 0 (min c.args.sites 64) some
+    c.all_below.ensures.places 0 ∙ lt-ltb 0 (min c.args.sites 64) some
 
 pub grow-requires : goal.grow-requires
 grow-requires g c =
-    let lawful = c.if-not-is-lawful.ensures in
-    let all = all_of lawful.few_sites c.new.ensures.0 c.all-below.ensures.bits in
+    let lawful = c.if-not-is_lawful.ensures in
+    let all = all_of lawful.few_sites c.new.ensures.0 c.all_below.ensures.bits in
     let size : size_below c.args.sites c.new.result.available ≡ c.args.sites = ap (size_below c.args.sites) all ∙ size_whole c.args.sites in
     record {
       lawful = lawful;
       room = refl;
-      within = λ x h. (let low : x < min c.args.sites 64 = ltb-true x _ (sym (c.all-below.ensures.places x) ∙ ap (λ (s : ℕ). member s x) (sym c.new.ensures.0) ∙ h) in omega arith);
+      within = λ x h. (let low : x < min c.args.sites 64 = ltb-true x _ (sym (c.all_below.ensures.places x) ∙ ap (λ (s : ℕ). member s x) (sym c.new.ensures.0) ∙ h) in omega arith);
       left = omega arith;
     }
 
 pub invariant-of-result : goal.invariant-of-result
 invariant-of-result g c =
-    let lawful = c.if-not-is-lawful.ensures in
-    let all = all_of lawful.few_sites c.new.ensures.0 c.all-below.ensures.bits in
+    let lawful = c.if-not-is_lawful.ensures in
+    let all = all_of lawful.few_sites c.new.ensures.0 c.all_below.ensures.bits in
     let tree = (whole_finished (replicate 64 no_node) c.grow.new.nodes lawful c.new.ensures.1 all refl c.grow.ensures.joins).rooted in
     (lawful.few_sites, (tree.inside, (tree.falls, (tree.root, tt))))
 
 pub returns : goal.returns
 returns g c =
-    let lawful = c.if-not-is-lawful.ensures in
-    let all = all_of lawful.few_sites c.new.ensures.0 c.all-below.ensures.bits in
+    let lawful = c.if-not-is_lawful.ensures in
+    let all = all_of lawful.few_sites c.new.ensures.0 c.all_below.ensures.bits in
     let tree = whole_finished (replicate 64 no_node) c.grow.new.nodes lawful c.new.ensures.1 all refl c.grow.ensures.joins in (
       lawful,
       record {

@@ -6,17 +6,17 @@ use Rattle.network.proofs.Lists.{among_index}
 use Rattle.desk.specs.Passes.{number_of, numbers_of}
 use Rattle.desk.proofs.passes.find_pass.Goals as goal
 
-pub returns-then-is-for : goal.returns-then-is-for
-returns-then-is-for c = (
+pub returns-then-is_for : goal.returns-then-is_for
+returns-then-is_for c = (
   c.loop-place-test.true,
   get_or-map number_of c.args.passes.now c.loop-place.place _ 0 c.loop-place-test.true
-      ∙ eqb-true _ _ (sym c.if-is-for.ensures),
+      ∙ eqb-true _ _ (sym c.if-is_for.ensures),
 )
 
 pub loop-place-preserved : goal.loop-place-preserved
 loop-place-preserved c =
     below_more _ _ c.loop-place.invariant
-    (λ e. eqb-false _ _ (sym c.if-is-for.ensures)
+    (λ e. eqb-false _ _ (sym c.if-is_for.ensures)
     (sym (get_or-map number_of c.args.passes.now c.loop-place.place _ 0 c.loop-place-test.true) ∙ e))
 
 pub returns : goal.returns

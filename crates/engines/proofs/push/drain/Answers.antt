@@ -13,7 +13,7 @@ stepped c =
     c.step.ensures c.args.a c.args.b (omega (arith, c.requires.a_within, c.steps.auto.work)) at.0 at.1 c.steps.invariant.0
 
 pub steps-preserved : goal.steps-preserved
-steps-preserved c = ((stepped (goal.at.steps-preserved c).After-step).0, c.find-active-p-in-steps.ensures.active, c.find-active-p-in-steps.ensures.none)
+steps-preserved c = ((stepped (goal.at.steps-preserved c).After-step).0, c.find_active-p-in-steps.ensures.active, c.find_active-p-in-steps.ensures.none)
 
 pub steps-smaller : goal.steps-smaller
 steps-smaller c = subst (λ (n : ℕ). left n c.step.new.work < left n c.steps.work) c.steps.auto.work (stepped (goal.at.steps-smaller c).After-step).1

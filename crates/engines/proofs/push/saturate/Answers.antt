@@ -4,8 +4,8 @@ use Rattle.engines.proofs.Pushes.{small}
 use Rattle.engines.proofs.Openings.{opening_more}
 use Rattle.engines.proofs.push.saturate.Goals as goal
 
-pub try-send-requires : goal.try-send-requires
-try-send-requires c =
+pub try_send-requires : goal.try_send-requires
+try_send-requires c =
     record {
       listed = c.loop-k-test.true;
       marked = omega arith;
@@ -18,4 +18,4 @@ pub loop-k-preserved : goal.loop-k-preserved
 loop-k-preserved c =
     let joins = joins_at (length c.args.work.now) (length c.loop-k.work) c.args.lines.now c.loop-k.auto.work c.requires.joined in
     opening_more c.args.lines.now c.loop-k.marks c.loop-k.work c.args.a c.loop-k.k (omega arith) joins
-    c.loop-k-test.true c.loop-k.invariant c.try-send.new.marks c.try-send.new.work c.try-send.result c.try-send.ensures
+    c.loop-k-test.true c.loop-k.invariant c.try_send.new.marks c.try_send.new.work c.try_send.result c.try_send.ensures

@@ -2,7 +2,7 @@ use Rattle.std.proofs.Common.{◌+◌, ◌<◌, false, ◌||◌, length, arith}
 use Rattle.engines.proofs.Rounds.{round_as, round_line, round_pass, round_weaken}
 use Rattle.engines.proofs.Arcs.{joins_at}
 use Rattle.engines.proofs.search.scan_round.Goals as goal
-use Rattle.engines.proofs.search.scan_round.Goals.{then-may-reach, else-may-reach}
+use Rattle.engines.proofs.search.scan_round.Goals.{then-may_reach, else-may_reach}
 
 pub loop-i-init : goal.loop-i-init
 loop-i-init c = λ a r.
@@ -16,16 +16,16 @@ loop-i-preserved c = λ a r.
     let i = c.loop-i.i in
     let found = c.loop-i.found in
     let joins = joins_at (length c.args.work.now) (length c.loop-i.work) ls c.loop-i.auto.work c.requires.joined in
-    elim c.if-may-reach.branch [
-      | then-may-reach w ↦
-          let forth = w.try-reach-forth in
-          let back = w.try-reach-back in
-          round_as ls ms a d ((found || forth.result) || back.result) c.if-may-reach.found (λ k _. k < i + 1) back.new.work c.if-may-reach.work w.found_is w.work_is
+    elim c.if-may_reach.branch [
+      | then-may_reach w ↦
+          let forth = w.try_reach-forth in
+          let back = w.try_reach-back in
+          round_as ls ms a d ((found || forth.result) || back.result) c.if-may_reach.found (λ k _. k < i + 1) back.new.work c.if-may_reach.work w.found_is w.work_is
           (round_line ls ms a d found c.loop-i.work forth.new.work back.new.work i forth.result back.result c.loop-i-test.true joins
           forth.auto.work (c.loop-i.invariant a r) forth.ensures.answer forth.ensures.after back.ensures.answer back.ensures.after)
-      | else-may-reach w ↦
-          round_as ls ms a d found c.if-may-reach.found (λ k _. k < i + 1) c.loop-i.work c.if-may-reach.work w.found_is w.work_is
-          (round_pass ls ms a d found c.may-reach.result c.loop-i.work i c.loop-i-test.true joins (c.loop-i.invariant a r) c.may-reach.ensures w.if-may-reach.false)
+      | else-may_reach w ↦
+          round_as ls ms a d found c.if-may_reach.found (λ k _. k < i + 1) c.loop-i.work c.if-may_reach.work w.found_is w.work_is
+          (round_pass ls ms a d found c.may_reach.result c.loop-i.work i c.loop-i-test.true joins (c.loop-i.invariant a r) c.may_reach.ensures w.if-may_reach.false)
     ]
 
 pub returns : goal.returns

@@ -3,4 +3,4 @@ use Rattle.std.proofs.Common.{arith}
 use Rattle.engines.proofs.search.start_search.Goals as goal
 
 pub returns : goal.returns
-returns c = λ ls ms. round_first ls ms c.args.a c.clear-seen.new.work c.note-seen.new.work (omega arith) c.clear-seen.ensures c.note-seen.ensures
+returns c = λ ls ms. round_first ls ms c.args.a c.clear_seen.new.work c.note_seen.new.work (omega arith) c.clear_seen.ensures c.note_seen.ensures

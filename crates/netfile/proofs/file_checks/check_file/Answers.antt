@@ -2,25 +2,25 @@ use Rattle.std.proofs.Common.{rules}
 use Rattle.netfile.specs.Meaning.{file_fault}
 use Rattle.netfile.proofs.file_checks.check_file.Goals as goal
 
-pub returns-in-err-check-size : goal.returns-in-err-check-size
+pub returns-in-err-check_size : goal.returns-in-err-check_size
 unfolding file_fault
-returns-in-err-check-size c = search rules
+returns-in-err-check_size c = search rules
 
-pub returns-in-err-check-signature : goal.returns-in-err-check-signature
+pub returns-in-err-check_signature : goal.returns-in-err-check_signature
 unfolding file_fault
-returns-in-err-check-signature c = search rules
+returns-in-err-check_signature c = search rules
 
-pub returns-in-err-check-edition : goal.returns-in-err-check-edition
+pub returns-in-err-check_edition : goal.returns-in-err-check_edition
 unfolding file_fault
-returns-in-err-check-edition c = search rules
+returns-in-err-check_edition c = search rules
 
-pub returns-in-err-check-pair-count : goal.returns-in-err-check-pair-count
+pub returns-in-err-check_pair_count : goal.returns-in-err-check_pair_count
 unfolding file_fault
-returns-in-err-check-pair-count c = search rules
+returns-in-err-check_pair_count c = search rules
 
-pub returns-in-err-check-parts : goal.returns-in-err-check-parts
+pub returns-in-err-check_parts : goal.returns-in-err-check_parts
 unfolding file_fault
-returns-in-err-check-parts c = search rules
+returns-in-err-check_parts c = search rules
 
 pub returns : goal.returns
 unfolding file_fault

@@ -3,14 +3,14 @@ use Rattle.netfile.specs.Meaning.{fault_in, first_fault}
 use Rattle.netfile.proofs.Networks.{judged}
 use Rattle.netfile.proofs.network_checks.check_network.Goals as goal
 
-pub returns-in-err-check-records : goal.returns-in-err-check-records
+pub returns-in-err-check_records : goal.returns-in-err-check_records
 unfolding first_fault
-returns-in-err-check-records c =
+returns-in-err-check_records c =
     let found : fault_in c.from-residual.result ≡ first_fault c.args.bytes.now = search rules in
     record { fault = found; judged = judged _ _ found }
 
 pub returns : goal.returns
 unfolding first_fault
 returns c =
-    let found : fault_in c.check-ends.result ≡ first_fault c.args.bytes.now = search rules in
+    let found : fault_in c.check_ends.result ≡ first_fault c.args.bytes.now = search rules in
     record { fault = found; judged = judged _ _ found }

@@ -6,7 +6,7 @@ use Rattle.network.proofs.side.complement.Goals as goal
 
 pub returns : goal.returns
 returns c = record {
-  places = λ i. (ap (λ r. member r i) c.without.ensures ∙ member_without c.all-below.result c.args.side i (omega arith) (omega arith)
-      ∙ ap (λ t. t && not (member c.args.side i)) (c.all-below.ensures.places i));
-  within = omega (arith, and_le_l c.all-below.result (2 ^ 64 - 1 - c.args.side));
+  places = λ i. (ap (λ r. member r i) c.without.ensures ∙ member_without c.all_below.result c.args.side i (omega arith) (omega arith)
+      ∙ ap (λ t. t && not (member c.args.side i)) (c.all_below.ensures.places i));
+  within = omega (arith, and_le_l c.all_below.result (2 ^ 64 - 1 - c.args.side));
 }

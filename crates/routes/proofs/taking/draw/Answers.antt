@@ -40,9 +40,9 @@ count c =
     drawn_count c.args.lines.now c.args.left.now c.loop-done.left c.walk-start.new.left c.args.a c.args.b c.loop-done.-done
     c.loop-done.invariant.0.0 c.loop-done.store c.loop-done.top c.walk-start.new.path c.walk-start.result c.loop-done.invariant.0.1 c.walk-start.ensures (size c)
 
-pub put-count-top-requires : goal.put-count-top-requires
-put-count-top-requires c =
-    let here = (goal.at.put-count-top-requires c).After-walk-start in
+pub put_count-top-requires : goal.put_count-top-requires
+put_count-top-requires c =
+    let here = (goal.at.put_count-top-requires c).After-walk-start in
     record {
       some = room here;
       order = omega (arith, c.walk-start.ensures.within, size here);
@@ -58,7 +58,7 @@ loop-done-preserved c =
         rs,
         drawn_by c.args.lines.now c.args.left.now c.loop-done.left c.walk-start.new.left c.args.a c.args.b c.loop-done.-done
             c.loop-done.invariant.0.0 c.loop-done.store c.loop-done.top c.walk-start.new.path c.walk-start.result c.loop-done.invariant.0.1 c.walk-start.ensures (size here)
-            (c.loop-done.top - 0) c.put-count-top.new.store c.put-count-top.result (omega arith) (room here) c.put-count-top.ensures.after c.put-count-top.ensures.place,
+            (c.loop-done.top - 0) c.put_count-top.new.store c.put_count-top.result (omega arith) (room here) c.put_count-top.ensures.after c.put_count-top.ensures.place,
       ),
       (
         c.loop-done.invariant.1.0 - 1,

@@ -17,8 +17,8 @@ bounds-lines-path c =
 
 pub loop-i-preserved : goal.loop-i-preserved
 loop-i-preserved c =
-    scan_more c.args.lines.now c.args.start c.args.place (drop c.args.top c.args.path.now) c.loop-i.stop c.far-end-stop.result
-    c.args.path.now c.loop-i.i (omega arith) c.if-stop-place.false c.far-end-stop.ensures c.loop-i.invariant
+    scan_more c.args.lines.now c.args.start c.args.place (drop c.args.top c.args.path.now) c.loop-i.stop c.far_end-stop.result
+    c.args.path.now c.loop-i.i (omega arith) c.if-stop-place.false c.far_end-stop.ensures c.loop-i.invariant
 
 pub returns-then-stop-place-2 : goal.returns-then-stop-place-2
 returns-then-stop-place-2 c = (

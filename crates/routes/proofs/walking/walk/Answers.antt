@@ -42,12 +42,12 @@ extend-top-requires c =
     }
 
 pub back-smaller : goal.back-smaller
-back-smaller c = omega (arith, fewer (goal.at.back-smaller c).After-source-before, ap (carriers c.args.lines.now) c.take-out.ensures)
+back-smaller c = omega (arith, fewer (goal.at.back-smaller c).After-source-before, ap (carriers c.args.lines.now) c.take_out.ensures)
 
 pub back-preserved : goal.back-preserved
 back-preserved c =
     let from = c.source-before.ensures in
-    subst (λ ms. Back c.args.lines.now c.args.left.now ms c.args.a c.args.b c.source-before.result c.extend-top.new.path c.extend-top.result) (sym c.take-out.ensures)
+    subst (λ ms. Back c.args.lines.now c.args.left.now ms c.args.a c.args.b c.source-before.result c.extend-top.new.path c.extend-top.result) (sym c.take_out.ensures)
     (subst (λ x. Back c.args.lines.now c.args.left.now (set c.back.left c.arriving-line.result 0) c.args.a c.args.b x c.extend-top.new.path c.extend-top.result) (sym from)
     (step_back c.args.lines.now c.args.left.now c.back.left c.args.a c.args.b c.back.place c.arriving-line.result c.back.path c.back.top
     c.arriving-line.ensures.inside (omega arith) c.arriving-line.ensures.comes c.back.invariant

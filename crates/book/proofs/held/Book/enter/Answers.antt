@@ -34,8 +34,8 @@ tell-requires g c =
       room = omega (arith, front_length w list plan.room, plan.room, c.plan.auto.list);
     }
 
-pub take-lines-self-requires : goal.take-lines-self-requires
-take-lines-self-requires g c =
+pub take_lines-self-requires : goal.take_lines-self-requires
+take_lines-self-requires g c =
     let b = c.args.self.now in let ls = vec_items b.lines in
     let ready = c.in-ok-length.ensures in let plan = ready.planned in
     let w = c.in-ok-length.length in let list = c.plan.new.list in
@@ -55,8 +55,8 @@ overflow-sub-length g c =
     let e = front w list (written (λ p. p) plan.routes) plan.listed in
     omega (arith, told_length ls _ _ _ plan.routes (take (w - 0) list) plan.chosen e, front_length w list plan.room)
 
-pub push-reserved-requires : goal.push-reserved-requires
-push-reserved-requires g c =
+pub push_reserved-requires : goal.push_reserved-requires
+push_reserved-requires g c =
     let b = c.args.self.now in let ls = vec_items b.lines in
     let ready = c.in-ok-length.ensures in let plan = ready.planned in let rs = plan.routes in
     let w = c.in-ok-length.length in let list = c.plan.new.list in let xs = take (w - 0) list in
@@ -66,13 +66,13 @@ push-reserved-requires g c =
 
 pub invariant-of-self : goal.invariant-of-self
 invariant-of-self g c =
-    let b = c.args.self.now in let ls = vec_items b.lines in let ls' = vec_items c.take-lines-self.new.lines in
+    let b = c.args.self.now in let ls = vec_items b.lines in let ls' = vec_items c.take_lines-self.new.lines in
     let rows = vec_items b.standing in let n = b.count + 1 in let k = c.args.k in
     let ready = c.in-ok-length.ensures in let plan = ready.planned in let rs = plan.routes in
     let w = c.in-ok-length.length in let list = c.plan.new.list in let xs = take (w - 0) list in
     let e = front w list (written (λ p. p) rs) plan.listed in
-    let size = given_size ls _ _ _ rs xs plan.chosen e n ls' c.take-lines-self.ensures.items in
-    let line = given_line ls _ _ _ rs xs plan.chosen e n ls' c.take-lines-self.ensures.items in
+    let size = given_size ls _ _ _ rs xs plan.chosen e n ls' c.take_lines-self.ensures.items in
+    let line = given_line ls _ _ _ rs xs plan.chosen e n ls' c.take_lines-self.ensures.items in
     let free = free_taken ls ls' _ _ _ rs n plan.chosen size line in
     let other = owned_other ls ls' _ _ _ rs n plan.chosen size line in
     let new = owned_new ls ls' _ _ _ rs n plan.chosen size line (b.given n (omega arith)) in
@@ -82,33 +82,33 @@ invariant-of-self g c =
     let held : w - k ≡ lines_on rs = omega (arith, many, total) in
     let row : Standing = record { number = n; held = w - k; length = w } in
     let told : length (take (w - 0) c.tell.new.numbers) ≡ w = front_length w c.tell.new.numbers (omega (arith, plan.room, c.plan.auto.list, c.tell.auto.numbers)) in
-    let ok = c.extend-from-slice.ensures.succeeds (omega (arith, told, many, total, some, (room_left b (free_count ls') (lines_on rs) free (omega (arith, ready.some, some))).1)) in
-    let more : vec_len c.extend-from-slice.new.self ≡ vec_len b.shown + length (take (w - 0) c.tell.new.numbers) = rw ok at c.extend-from-slice.ensures.len in (
+    let ok = c.extend_from_slice.ensures.succeeds (omega (arith, told, many, total, some, (room_left b (free_count ls') (lines_on rs) free (omega (arith, ready.some, some))).1)) in
+    let more : vec_len c.extend_from_slice.new.self ≡ vec_len b.shown + length (take (w - 0) c.tell.new.numbers) = rw ok at c.extend_from_slice.ensures.len in (
       search rules,
       (
         search rules,
         (
           search rules,
           (
-            omega (arith, b.shown_room, c.extend-from-slice.ensures.capacity),
+            omega (arith, b.shown_room, c.extend_from_slice.ensures.capacity),
             (
               search rules,
               (
                 search rules,
                 (
-                  subst (λ (m : ℕ). AllJoin m ls') c.len-sites.ensures c.take-lines-self.ensures.joined,
+                  subst (λ (m : ℕ). AllJoin m ls') c.len-sites.ensures c.take_lines-self.ensures.joined,
                   (
-                    (let h = held_push row rows in let i = ap total_held c.push-reserved.ensures.items in omega (arith, i, h, held, free, b.parted, c.take-lines-self.ensures.len)),
+                    (let h = held_push row rows in let i = ap total_held c.push_reserved.ensures.items in omega (arith, i, h, held, free, b.parted, c.take_lines-self.ensures.len)),
                     (
-                      ap total_shown c.push-reserved.ensures.items ∙ shown_push row rows ∙ omega (arith, b.totals, more, told),
+                      ap total_shown c.push_reserved.ensures.items ∙ shown_push row rows ∙ omega (arith, b.totals, more, told),
                       (
-                        rw c.push-reserved.ensures.items (sound_push row ls ls' 0 b.count rows b.rises (λ m l. other m (omega arith)) (new ∙ sym held) (omega (arith, held, some, ready.some)) (omega (arith, held, many, total, some)) (omega arith)),
+                        rw c.push_reserved.ensures.items (sound_push row ls ls' 0 b.count rows b.rises (λ m l. other m (omega arith)) (new ∙ sym held) (omega (arith, held, some, ready.some)) (omega (arith, held, many, total, some)) (omega arith)),
                         (
                           (λ m l. other m (omega (arith, l)) ∙ b.given m (omega (arith, l))),
                           (
-                            c.take-lines-self.ensures.spans ∙ c.len-sites.ensures,
+                            c.take_lines-self.ensures.spans ∙ c.len-sites.ensures,
                             (
-                              tells_moved c.len-sites.result (vec_len b.sites) ls' c.take-lines-self.result c.len-sites.ensures c.take-lines-self.ensures.tells,
+                              tells_moved c.len-sites.result (vec_len b.sites) ls' c.take_lines-self.result c.len-sites.ensures c.take_lines-self.ensures.tells,
                               (
                                 (λ z. absurd (omega (arith, z, ready.opened))),
                                 tt,
@@ -129,20 +129,20 @@ invariant-of-self g c =
 
 pub returns : goal.returns
 returns g c =
-    let b = c.args.self.now in let ls = vec_items b.lines in let ls' = vec_items c.take-lines-self.new.lines in
+    let b = c.args.self.now in let ls = vec_items b.lines in let ls' = vec_items c.take_lines-self.new.lines in
     let rows = vec_items b.standing in let n = b.count + 1 in let k = c.args.k in
     let ready = c.in-ok-length.ensures in let plan = ready.planned in let rs = plan.routes in
     let w = c.in-ok-length.length in let list = c.plan.new.list in let xs = take (w - 0) list in
     let e = front w list (written (λ p. p) rs) plan.listed in
-    let size = given_size ls _ _ _ rs xs plan.chosen e n ls' c.take-lines-self.ensures.items in
-    let line = given_line ls _ _ _ rs xs plan.chosen e n ls' c.take-lines-self.ensures.items in
+    let size = given_size ls _ _ _ rs xs plan.chosen e n ls' c.take_lines-self.ensures.items in
+    let line = given_line ls _ _ _ rs xs plan.chosen e n ls' c.take_lines-self.ensures.items in
     let free = free_taken ls ls' _ _ _ rs n plan.chosen size line in
     let many : length xs ≡ w = front_length w list plan.room in
     let total = told_length ls _ _ _ rs xs plan.chosen e in
     let some = told_some ls _ _ _ rs xs plan.chosen e ready.two in
     let held : w - k ≡ lines_on rs = omega (arith, many, total) in
     let told : length (take (w - 0) c.tell.new.numbers) ≡ w = front_length w c.tell.new.numbers (omega (arith, plan.room, c.plan.auto.list, c.tell.auto.numbers)) in
-    let ok = c.extend-from-slice.ensures.succeeds (omega (arith, told, many, total, some, (room_left b (free_count ls') (lines_on rs) free (omega (arith, ready.some, some))).1)) in
+    let ok = c.extend_from_slice.ensures.succeeds (omega (arith, told, many, total, some, (room_left b (free_count ls') (lines_on rs) free (omega (arith, ready.some, some))).1)) in
     let written_out : take (w - 0) c.tell.new.numbers ≡ encoded ls rs =
     front w c.tell.new.numbers (encoded ls rs)
     (ap (λ (m : ℕ). take m c.tell.new.numbers) (sym many) ∙ c.tell.ensures ∙ ap (λ (l : List Line). numbers_told l 0 xs) c.deref.ensures.value ∙ told_numbers ls _ _ _ rs xs plan.chosen e) in (
@@ -153,8 +153,8 @@ returns g c =
         sites = refl;
         size = size;
         line = line;
-        rows = c.push-reserved.ensures.items ∙ ap (λ (r : Standing). rows ++ r ∷ []) (same_row n (w - k) (lines_on rs) w (length (encoded ls rs)) held (sym many ∙ sym (encoded_length ls _ _ _ rs xs plan.chosen e)));
-        shown = rw ok at c.extend-from-slice.ensures.items ∙ ap (λ (z : List ℕ). vec_items b.shown ++ z) written_out;
+        rows = c.push_reserved.ensures.items ∙ ap (λ (r : Standing). rows ++ r ∷ []) (same_row n (w - k) (lines_on rs) w (length (encoded ls rs)) held (sym many ∙ sym (encoded_length ls _ _ _ rs xs plan.chosen e)));
+        shown = rw ok at c.extend_from_slice.ensures.items ∙ ap (λ (z : List ℕ). vec_items b.shown ++ z) written_out;
         mark = refl;
         count = refl;
         ticket_mark = c.ticket.ensures.0;

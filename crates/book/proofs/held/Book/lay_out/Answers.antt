@@ -11,8 +11,8 @@ use Rattle.book.proofs.Fresh.{empty_book, all_free, none_owned}
 use Rattle.book.proofs.Rows.{sound_none}
 use Rattle.book.proofs.held.Book.lay_out.Goals as goal
 
-pub lay-sites-requires : goal.lay-sites-requires
-lay-sites-requires g c =
+pub lay_sites-requires : goal.lay_sites-requires
+lay_sites-requires g c =
     let b = c.args.self.now in
     let bytes = c.args.file.now.bytes.now in
     let ok = c.requires.accepted in
@@ -22,8 +22,8 @@ lay-sites-requires g c =
       room = omega (arith, (file_facts bytes ok).few_sites, b.site_room);
     }
 
-pub lay-lines-requires : goal.lay-lines-requires
-lay-lines-requires g c =
+pub lay_lines-requires : goal.lay_lines-requires
+lay_lines-requires g c =
     let b = c.args.self.now in
     let bytes = c.args.file.now.bytes.now in
     let ok = c.requires.accepted in
@@ -34,15 +34,15 @@ lay-lines-requires g c =
       room = omega (arith, (file_facts bytes ok).few_lines, b.line_room);
     }
 
-pub tree-of-self-requires : goal.tree-of-self-requires
-tree-of-self-requires g c =
+pub tree_of-self-requires : goal.tree_of-self-requires
+tree_of-self-requires g c =
     let bytes = c.args.file.now.bytes.now in
     let facts = file_facts bytes c.requires.accepted in
-    let n : c.len.result ≡ length (sites_in bytes) = c.len.ensures ∙ c.lay-sites.new.sites.ok.0 ∙ ap length c.lay-sites.ensures.items in
-    let ls = c.lay-lines.ensures.items in
+    let n : c.len.result ≡ length (sites_in bytes) = c.len.ensures ∙ c.lay_sites.new.sites.ok.0 ∙ ap length c.lay_sites.ensures.items in
+    let ls = c.lay_lines.ensures.items in
     record {
       few_sites = omega (arith, n, facts.few_sites);
-      few_lines = omega (arith, c.lay-lines.new.lines.ok.0, ap length ls, facts.few_lines);
+      few_lines = omega (arith, c.lay_lines.new.lines.ok.0, ap length ls, facts.few_lines);
       joined = subst₂ (λ (m : ℕ) (l : List Line). AllJoin m l) (sym n) (sym ls) facts.joined;
     }
 
@@ -55,15 +55,15 @@ invariant-of-self g c =
     let facts = file_facts bytes ok in
     let none = empty_book b c.requires.unopened in
     let rows = vec_items b.standing in
-    let ls' = vec_items c.lay-lines.new.lines in
-    let e : ls' ≡ lines_in bytes = c.lay-lines.ensures.items in
-    let n : vec_len c.lay-sites.new.sites ≡ length (sites_in bytes) = c.lay-sites.new.sites.ok.0 ∙ ap length c.lay-sites.ensures.items in
-    let m : vec_len c.lay-lines.new.lines ≡ length ls' = c.lay-lines.new.lines.ok.0 in
+    let ls' = vec_items c.lay_lines.new.lines in
+    let e : ls' ≡ lines_in bytes = c.lay_lines.ensures.items in
+    let n : vec_len c.lay_sites.new.sites ≡ length (sites_in bytes) = c.lay_sites.new.sites.ok.0 ∙ ap length c.lay_sites.ensures.items in
+    let m : vec_len c.lay_lines.new.lines ≡ length ls' = c.lay_lines.new.lines.ok.0 in
     let free : (p : ℕ) → p < length ls' → (line_at ls' p).state ≡ Free =
     λ p l. ap (λ (z : List Line). (line_at z p).state) e ∙ facts.all_free p (omega (arith, l, ap length e)) in (
-      omega (arith, b.site_room, c.lay-sites.ensures.capacity),
+      omega (arith, b.site_room, c.lay_sites.ensures.capacity),
       (
-        omega (arith, b.line_room, c.lay-lines.ensures.capacity),
+        omega (arith, b.line_room, c.lay_lines.ensures.capacity),
         (
           b.row_room,
           (
@@ -83,9 +83,9 @@ invariant-of-self g c =
                         (
                           (λ j l. none_owned ls' free j),
                           (
-                            c.tree-of-self.ensures.spans ∙ c.len.ensures,
+                            c.tree_of-self.ensures.spans ∙ c.len.ensures,
                             (
-                              tells_moved c.len.result (vec_len c.lay-sites.new.sites) ls' c.tree-of-self.result c.len.ensures c.tree-of-self.ensures.tells,
+                              tells_moved c.len.result (vec_len c.lay_sites.new.sites) ls' c.tree_of-self.result c.len.ensures c.tree_of-self.ensures.tells,
                               (
                                 (λ z. absurd (omega (arith, z, n, facts.some_site))),
                                 tt,
@@ -108,8 +108,8 @@ pub returns : goal.returns
 returns g c =
     let none = empty_book c.args.self.now c.requires.unopened in
     record {
-      sites = c.lay-sites.ensures.items;
-      lines = c.lay-lines.ensures.items;
+      sites = c.lay_sites.ensures.items;
+      lines = c.lay_lines.ensures.items;
       rows = none.rows;
       shown = none.shown;
       mark = refl;

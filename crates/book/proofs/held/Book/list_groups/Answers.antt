@@ -7,8 +7,8 @@ use Rattle.book.proofs.Grouping.{Grouped, grouped, entry_within}
 use Rattle.book.proofs.Laying.{named}
 use Rattle.book.proofs.held.Book.list_groups.Goals as goal
 
-pub name-places-requires : goal.name-places-requires
-name-places-requires g c =
+pub name_places-requires : goal.name_places-requires
+name_places-requires g c =
     let b = c.args.self.now in let n = vec_len b.sites in let ls = vec_items b.lines in let k = c.args.k in
     let list = c.args.list.now in let list' = c.groups.new.list in let r = c.in-Some.count in
     let h = grouped n ls b.tree k list list' r b.spans b.tells c.in-Some.ensures.told c.in-Some.ensures.network in
@@ -28,8 +28,8 @@ returns g c =
     let out : k_out k ≡ false = or_from (eqb k 0) (ltb 512 k) (ne_eqb k 0 c.if-k-eq0.false) (le-ltb 512 k c.if-k-gt512.false) in (
       rw (out, le-ltb (length list) (length ss) (omega (arith, m, c.if-list-len.false, c.len.ensures))) refl,
       h.count,
-      named (length ss) (site_number ss) list list' c.name-places.new.list (group_list (length ss) ls k)
-          (omega (arith, m, c.if-list-len.false, c.len.ensures, c.groups.auto.list)) c.name-places.auto.list h.entries h.rest
-          (λ i l. subst (λ (z : List Site). get_or c.name-places.new.list i 0 ≡ site_number z (get_or list' i 0)) c.deref.ensures.value (c.name-places.ensures.named i (omega (arith, l, m, c.deref.ensures.len))))
-          (λ i l. c.name-places.ensures.rest i (omega (arith, l, m, c.deref.ensures.len))),
+      named (length ss) (site_number ss) list list' c.name_places.new.list (group_list (length ss) ls k)
+          (omega (arith, m, c.if-list-len.false, c.len.ensures, c.groups.auto.list)) c.name_places.auto.list h.entries h.rest
+          (λ i l. subst (λ (z : List Site). get_or c.name_places.new.list i 0 ≡ site_number z (get_or list' i 0)) c.deref.ensures.value (c.name_places.ensures.named i (omega (arith, l, m, c.deref.ensures.len))))
+          (λ i l. c.name_places.ensures.rest i (omega (arith, l, m, c.deref.ensures.len))),
     )

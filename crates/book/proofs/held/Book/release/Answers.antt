@@ -12,13 +12,13 @@ pub invariant-of-self : goal.invariant-of-self
 invariant-of-self g c =
     let b = c.args.self.now in
     let ls = vec_items b.lines in
-    let ls' = vec_items c.free-lines-self.new.lines in
+    let ls' = vec_items c.free_lines-self.new.lines in
     let rows = vec_items b.standing in
     let j = c.args.ticket.number in
     let at = c.in-Some.stretch in
     let f = c.in-Some.ensures.1 in
-    let size : length ls' ≡ length ls = sym c.free-lines-self.new.lines.ok.0 ∙ c.free-lines-self.ensures.len ∙ b.lines.ok.0 in
-    let line = λ (p : ℕ) (l : p < length ls). c.free-lines-self.ensures.line p (omega (arith, l, b.lines.ok.0)) in
+    let size : length ls' ≡ length ls = sym c.free_lines-self.new.lines.ok.0 ∙ c.free_lines-self.ensures.len ∙ b.lines.ok.0 in
+    let line = λ (p : ℕ) (l : p < length ls). c.free_lines-self.ensures.line p (omega (arith, l, b.lines.ok.0)) in
     let own = sound_own ls 0 b.count j rows b.rises f.here in
     let back = free_back ls ls' j size line in
     let rest = owned_rest ls ls' j size line in
@@ -37,17 +37,17 @@ invariant-of-self g c =
                 (
                   search rules,
                   (
-                    (let t = held_without j rows f.here in let e = ap total_held items in omega (arith, e, t, back, own, b.parted, c.free-lines-self.ensures.len)),
+                    (let t = held_without j rows f.here in let e = ap total_held items in omega (arith, e, t, back, own, b.parted, c.free_lines-self.ensures.len)),
                     (
-                      (let t = shown_without j rows f.here in ap total_shown items ∙ omega (arith, t, b.totals, c.cut-out.ensures.len, f.many)),
+                      (let t = shown_without j rows f.here in ap total_shown items ∙ omega (arith, t, b.totals, c.cut_out.ensures.len, f.many)),
                       (
                         rw items (sound_without ls ls' 0 b.count j rows b.rises rest),
                         (
                           (λ m l. elim (cases_eq j m) [ inl e ↦ ap (owned ls') (sym e) ∙ owned_gone ls ls' j size line | inr ne ↦ rest m ne ∙ b.given m l ]),
                           (
-                            c.free-lines-self.ensures.spans ∙ c.len-sites.ensures,
+                            c.free_lines-self.ensures.spans ∙ c.len-sites.ensures,
                             (
-                              tells_moved c.len-sites.result (vec_len b.sites) ls' c.free-lines-self.result c.len-sites.ensures c.free-lines-self.ensures.tells,
+                              tells_moved c.len-sites.result (vec_len b.sites) ls' c.free_lines-self.result c.len-sites.ensures c.free_lines-self.ensures.tells,
                               (
                                 b.unopened,
                                 tt,

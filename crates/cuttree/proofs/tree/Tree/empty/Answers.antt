@@ -5,10 +5,10 @@ use Rattle.cuttree.proofs.tree.Tree.empty.Goals as goal
 
 pub returns : goal.returns
 returns c = record {
-  none = c.no-sites.ensures.none;
+  none = c.no_sites.ensures.none;
   tree = λ ls. record {
-    spans = c.no-sites.ensures.none;
+    spans = c.no_sites.ensures.none;
     levels = λ x y h. (let low = (two_parts 0 x y h).0 in absurd (omega arith));
-    splits = ∣ none_by_splits ls c.no-sites.result.nodes c.no-sites.ensures.root ∣₁;
+    splits = ∣ none_by_splits ls c.no_sites.result.nodes c.no_sites.ensures.root ∣₁;
   };
 }

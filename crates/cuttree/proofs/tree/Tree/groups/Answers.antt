@@ -13,12 +13,12 @@ loop-x-preserved c =
     let x = c.loop-x.x in
     let f = lowest_in c.args.self.now c.args.k in
     let P = is_lowest_in c.args.self.now c.args.k in
-    let is : c.lowest-near-low.result ≡ f x = c.lowest-near-low.ensures.is in
+    let is : c.lowest_near-low.result ≡ f x = c.lowest_near-low.ensures.is in
     let room : x < length c.args.list.now = omega arith in
     let written = ap₂ (λ (xs : List ℕ) (v : ℕ). set xs x v) c.loop-x.invariant.0 is ∙ filled_more f c.args.list.now x room in
     let more : c.counted-count.result ≡ tally P (x + 1) =
     c.counted-count.ensures ∙ ap₂ (λ (low c : ℕ). cond (eqb low x) 1 0 + c) is c.loop-x.invariant.1 ∙ sym (tally_more P x) in
-    (written, more, omega (arith, c.loop-x.invariant.2, one_at_most (eqb c.lowest-near-low.result x), c.counted-count.ensures))
+    (written, more, omega (arith, c.loop-x.invariant.2, one_at_most (eqb c.lowest_near-low.result x), c.counted-count.ensures))
 
 pub returns : goal.returns
 returns c =

@@ -7,7 +7,7 @@ use Rattle.desk.proofs.desk.Desk.pass.Goals as goal
 pub returns-in-Some : goal.returns-in-Some
 returns-in-Some g c =
     let f = rw c.deref.ensures.value at c.in-Some.ensures in
-    let e = rw c.deref-in-Some.ensures.value at c.pass-at.ensures in
+    let e = rw c.deref-in-Some.ensures.value at c.pass_at.ensures in
     record {
       place = c.in-Some.place;
       within = f.0;

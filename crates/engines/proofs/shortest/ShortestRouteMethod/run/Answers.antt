@@ -7,10 +7,10 @@ use Rattle.engines.proofs.shortest.ShortestRouteMethod.run.Goals.{After-augment}
 
 pub units-init : goal.units-init
 units-init c =
-    let unused = all_unused c.clear-marks.new.marks c.clear-marks.ensures in
+    let unused = all_unused c.clear_marks.new.marks c.clear_marks.ensures in
     record {
-      marked = none_marked c.args.lines.now c.clear-marks.new.marks unused;
-      balanced = none_balanced c.args.lines.now c.clear-marks.new.marks c.args.a c.args.b unused;
+      marked = none_marked c.args.lines.now c.clear_marks.new.marks unused;
+      balanced = none_balanced c.args.lines.now c.clear_marks.new.marks c.args.a c.args.b unused;
     }
 
 more : (c : After-augment) → Balanced c.args.lines.now c.augment.new.marks c.args.a c.args.b (c.units.value + 1)
@@ -34,6 +34,6 @@ overflow-add-value c = omega (arith, room (goal.at.overflow-add-value c).After-a
 pub returns : goal.returns
 returns c =
     answered c.args.lines.now c.args.marks.now c.units.marks c.search.new.work (length c.args.work.now)
-    c.args.a c.args.b c.units.value c.side-seen.result (omega arith) (omega arith) c.requires.marked c.requires.task.joined
+    c.args.a c.args.b c.units.value c.side_seen.result (omega arith) (omega arith) c.requires.marked c.requires.task.joined
     c.requires.task.a_within c.requires.task.b_within c.units.invariant.marked c.units.invariant.balanced c.units-test.ensures
-    c.side-seen.ensures.within c.side-seen.ensures.places
+    c.side_seen.ensures.within c.side_seen.ensures.places

@@ -9,12 +9,12 @@ use Rattle.netfile.proofs.file.NetworkFile.sites.Goals as goal
 pub returns : goal.returns
 returns c =
     let bs = c.args.self.now.bytes.now in
-    let p = c.site-part.result in
+    let p = c.site_part.result in
     let start : first_fault bs ≡ None → p.start ≡ site_offset bs =
-    λ e. let b = file_bounded bs e in c.site-part.ensures.start b.header b.sites_to in
+    λ e. let b = file_bounded bs e in c.site_part.ensures.start b.header b.sites_to in
     let total : first_fault bs ≡ None → p.total ≡ site_count bs =
-    λ e. let b = file_bounded bs e in c.site-part.ensures.total b.header b.sites_to in
-    let bytes = c.site-part.ensures.bytes in
+    λ e. let b = file_bounded bs e in c.site_part.ensures.total b.header b.sites_to in
+    let bytes = c.site_part.ensures.bytes in
     record {
       numbers = λ e. simp (bytes, start e, total e);
       few = λ e. omega (arith, length_numbers p.bytes.now p.start 8 p.total, total e, (file_bounded bs e).few_sites);
