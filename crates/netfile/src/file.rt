@@ -90,7 +90,7 @@ impl<'a> NetworkFile<'a> {
 
 /// The free line that a record makes between the places of the sites that it names.
 fn line_between<T: Numbered>(sites: &T, named: LineRecord) -> Line
-    ensures { length (numbers sites.now) ≤ 64 → result ≡ line_from (numbers sites.now) named }
+    ensures { length (T.numbers sites.now) ≤ 64 → result ≡ line_from (T.numbers sites.now) named }
 {
     Line {
         number: named.number,
@@ -102,7 +102,7 @@ fn line_between<T: Numbered>(sites: &T, named: LineRecord) -> Line
 
 /// The place of the site of a number: an accepted file has it for every named site, and at most 64 places.
 fn place_in<T: Numbered>(sites: &T, number: u16) -> u8
-    ensures { length (numbers sites.now) ≤ 64 → result ≡ or_zero (position_of (numbers sites.now) number) }
+    ensures { length (T.numbers sites.now) ≤ 64 → result ≡ or_zero (position_of (T.numbers sites.now) number) }
 {
     match find(sites, number) {
         Some(place) if place < 64 => place as u8,

@@ -36,7 +36,7 @@ fn check_ends(bytes: &[u8]) -> Result<(), NetworkFault>
 }
 
 fn joins_two<T: Numbered>(sites: &T, first: u16, second: u16) -> bool
-    ensures { result ≡ joins_two (numbers sites.now) first second }
+    ensures { result ≡ joins_two (T.numbers sites.now) first second }
 {
     find(sites, first).is_some() && find(sites, second).is_some() && first != second
 }

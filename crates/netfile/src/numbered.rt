@@ -15,7 +15,7 @@ pub trait Numbered {
 
 /// The first position at which a number stands.
 pub fn find<T: Numbered>(records: &T, number: u16) -> Option<usize>
-    ensures { result ≡ position_of (numbers records.now) number }
+    ensures { result ≡ position_of (T.numbers records.now) number }
 {
     for position in 0..records.count() {
         if records.number(position) == number {
@@ -27,7 +27,7 @@ pub fn find<T: Numbered>(records: &T, number: u16) -> Option<usize>
 
 /// The first position whose number is not above the one before it.
 pub fn first_not_rising<T: Numbered>(records: &T) -> Option<usize>
-    ensures { result ≡ first_fall (numbers records.now) }
+    ensures { result ≡ first_fall (T.numbers records.now) }
 {
     for i in 0..records.count() {
         if falls(records, i) {
@@ -40,7 +40,7 @@ pub fn first_not_rising<T: Numbered>(records: &T) -> Option<usize>
 /// Whether the number at a position is not above the one before it. The first record has none before it, so its number
 /// may be 0.
 fn falls<T: Numbered>(records: &T, i: usize) -> bool
-    ensures { result ≡ falls_at (numbers records.now) i }
+    ensures { result ≡ falls_at (T.numbers records.now) i }
 {
     i > 0 && records.number(i) <= records.number(i - 1)
 }

@@ -33,8 +33,8 @@ fn check_rising(bytes: &[u8]) -> Result<(), RecordFault>
 
 /// The numbers of the records of one part, which stand `step` bytes from one another.
 fn check_order<T: Numbered>(records: &T, start: usize, step: usize) -> Result<(), RecordFault>
-    requires { start + step * length (numbers records.now) < 2 ^ 64 }
-    ensures { fault_in result ≡ order_fault (numbers records.now) start step }
+    requires { start + step * length (T.numbers records.now) < 2 ^ 64 }
+    ensures { fault_in result ≡ order_fault (T.numbers records.now) start step }
 {
     match first_not_rising(records) {
         Some(i) => Err(RecordFault::NotRising(start + step * i)),

@@ -10,8 +10,8 @@ pub returns-then-rows-row : goal.returns-then-rows-row
 returns-then-rows-row c =
     sought_found c.args.rows.now c.args.number c.seek.row c.seek.from c.seek.invariant (search rules) (eq-eqb _ _ (search rules))
 
-pub overflow-add-from : goal.overflow-add-from
-overflow-add-from c =
+pub overflow_add-from : goal.overflow_add-from
+overflow_add-from c =
     let f = sought_within c.args.rows.now c.args.number c.seek.row c.seek.from c.seek.invariant (search rules) in omega (arith, f, c.requires)
 
 pub seek-preserved : goal.seek-preserved

@@ -16,8 +16,8 @@ handed_back b after last x y k t t' d n e r =
 
 pub lost-requires : goal.lost-requires
 lost-requires g c =
-    handed_back c.args.own.now c.book.new.self c.release-in-Err.new.self 10 20 3 c.in-ok-ticket.ticket c.in-Err.denied.ticket
+    handed_back c.args.own.now c.book.new.self c.release-in-Err.new.self 10 20 3 c.in_ok-ticket.ticket c.in-Err.denied.ticket
     c.in-Err-release.denied
-    c.in-ok-ticket.ensures.booked.1
+    c.in_ok-ticket.ensures.booked.1
     c.in-Err.ensures.1
     c.in-Err-release.ensures

@@ -5,10 +5,10 @@ use Rattle.cuttree.proofs.Sizes.{size_one}
 use Rattle.cuttree.proofs.Joining.{stands_done, stands_split, near_within, far_within, halves}
 use Rattle.cuttree.proofs.builder.+grow.Goals as goal
 
-pub returns-in-default : goal.returns-in-default
-returns-in-default g t c =
+pub returns-in_default : goal.returns-in_default
+returns-in_default g t c =
     let p = c.args.pending in
-    let alone = c.in-default.ensures in
+    let alone = c.in_default.ensures in
     record {
       count = ap (◌+◌ c.args.joined) (sym (size_one c.args.sites p.available p.source (c.requires.within p.source p.held) p.held alone));
       joins = λ ps. stands_done c.args.sites c.args.lines.now (part p.available p.source) ps c.args.joined c.args.nodes.now alone;
@@ -25,8 +25,8 @@ edge-cut-requires g t c =
       two = λ e. next.other (sym e);
     }
 
-pub offset-bounds-nodes-t : goal.offset-bounds-nodes-t
-offset-bounds-nodes-t g t c =
+pub offset_bounds-nodes-t : goal.offset_bounds-nodes-t
+offset_bounds-nodes-t g t c =
     let low = c.requires.within c.in-Some.t c.in-Some.ensures.waits in let few = c.requires.lawful.few_sites in search rules
 
 pub bounds-nodes-t : goal.bounds-nodes-t

@@ -26,12 +26,12 @@ grow-requires g c =
       left = omega arith;
     }
 
-pub invariant-of-result : goal.invariant-of-result
-invariant-of-result g c =
+pub invariant_of-result : goal.invariant_of-result
+invariant_of-result g c =
     let lawful = c.if-not-is_lawful.ensures in
     let all = all_of lawful.few_sites c.new.ensures.0 c.all_below.ensures.bits in
     let tree = (whole_finished (replicate 64 no_node) c.grow.new.nodes lawful c.new.ensures.1 all refl c.grow.ensures.joins).rooted in
-    (lawful.few_sites, (tree.inside, (tree.falls, (tree.root, tt))))
+    record { few = lawful.few_sites; inside = tree.inside; falls = tree.falls; root = tree.root }
 
 pub returns : goal.returns
 returns g c =

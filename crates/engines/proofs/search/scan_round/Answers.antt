@@ -20,11 +20,11 @@ loop-i-preserved c = λ a r.
       | then-may_reach w ↦
           let forth = w.try_reach-forth in
           let back = w.try_reach-back in
-          round_as ls ms a d ((found || forth.result) || back.result) c.if-may_reach.found (λ k _. k < i + 1) back.new.work c.if-may_reach.work w.found_is w.work_is
+          round_as ls ms a d ((found || forth.result) || back.result) c.if-may_reach.found (λ k _. k < i + 1) back.new.work c.if-may_reach.work w.found-is w.work-is
           (round_line ls ms a d found c.loop-i.work forth.new.work back.new.work i forth.result back.result c.loop-i-test.true joins
           forth.auto.work (c.loop-i.invariant a r) forth.ensures.answer forth.ensures.after back.ensures.answer back.ensures.after)
       | else-may_reach w ↦
-          round_as ls ms a d found c.if-may_reach.found (λ k _. k < i + 1) c.loop-i.work c.if-may_reach.work w.found_is w.work_is
+          round_as ls ms a d found c.if-may_reach.found (λ k _. k < i + 1) c.loop-i.work c.if-may_reach.work w.found-is w.work-is
           (round_pass ls ms a d found c.may_reach.result c.loop-i.work i c.loop-i-test.true joins (c.loop-i.invariant a r) c.may_reach.ensures w.if-may_reach.false)
     ]
 

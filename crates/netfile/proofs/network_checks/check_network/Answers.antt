@@ -3,10 +3,10 @@ use Rattle.netfile.specs.Meaning.{fault_in, first_fault}
 use Rattle.netfile.proofs.Networks.{judged}
 use Rattle.netfile.proofs.network_checks.check_network.Goals as goal
 
-pub returns-in-err-check_records : goal.returns-in-err-check_records
+pub returns-in_err-check_records : goal.returns-in_err-check_records
 unfolding first_fault
-returns-in-err-check_records c =
-    let found : fault_in c.from-residual.result ≡ first_fault c.args.bytes.now = search rules in
+returns-in_err-check_records c =
+    let found : fault_in c.from_residual.result ≡ first_fault c.args.bytes.now = search rules in
     record { fault = found; judged = judged _ _ found }
 
 pub returns : goal.returns

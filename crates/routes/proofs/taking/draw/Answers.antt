@@ -11,8 +11,8 @@ loop-done-init c = (
   (c.requires.flows.0, omega (arith, c.requires.flows.1), c.requires.flows.2),
 )
 
-pub slice-bounds-walk-end : goal.slice-bounds-walk-end
-slice-bounds-walk-end c = omega (arith, c.loop-done.invariant.0.1.within)
+pub slice_bounds-walk-end : goal.slice_bounds-walk-end
+slice_bounds-walk-end c = omega (arith, c.loop-done.invariant.0.1.within)
 
 pub walk-start-requires : goal.walk-start-requires
 walk-start-requires c =
@@ -31,13 +31,13 @@ size c = c.walk-start.auto.path ∙ simp length-take (omega (arith, c.loop-done.
 
 room : (c : After-walk-start) → 0 < c.walk-start.result
 room c =
-    drawn_room c.args.lines.now c.args.left.now c.loop-done.left c.walk-start.new.left c.args.a c.args.b c.loop-done.-done
+    drawn_room c.args.lines.now c.args.left.now c.loop-done.left c.walk-start.new.left c.args.a c.args.b c.loop-done._done
     c.loop-done.invariant.0.0 c.loop-done.store c.loop-done.top c.walk-start.new.path c.walk-start.result c.loop-done.invariant.0.1 c.walk-start.ensures (size c)
     (omega (arith, c.requires.space))
 
 count : (c : After-walk-start) → c.loop-done.top - c.walk-start.result ≤ length c.args.lines.now
 count c =
-    drawn_count c.args.lines.now c.args.left.now c.loop-done.left c.walk-start.new.left c.args.a c.args.b c.loop-done.-done
+    drawn_count c.args.lines.now c.args.left.now c.loop-done.left c.walk-start.new.left c.args.a c.args.b c.loop-done._done
     c.loop-done.invariant.0.0 c.loop-done.store c.loop-done.top c.walk-start.new.path c.walk-start.result c.loop-done.invariant.0.1 c.walk-start.ensures (size c)
 
 pub put_count-top-requires : goal.put_count-top-requires
@@ -56,7 +56,7 @@ loop-done-preserved c =
     let rs = drop c.walk-start.result c.walk-start.new.path ∷ c.loop-done.invariant.0.0 in (
       (
         rs,
-        drawn_by c.args.lines.now c.args.left.now c.loop-done.left c.walk-start.new.left c.args.a c.args.b c.loop-done.-done
+        drawn_by c.args.lines.now c.args.left.now c.loop-done.left c.walk-start.new.left c.args.a c.args.b c.loop-done._done
             c.loop-done.invariant.0.0 c.loop-done.store c.loop-done.top c.walk-start.new.path c.walk-start.result c.loop-done.invariant.0.1 c.walk-start.ensures (size here)
             (c.loop-done.top - 0) c.put_count-top.new.store c.put_count-top.result (omega arith) (room here) c.put_count-top.ensures.after c.put_count-top.ensures.place,
       ),
@@ -70,7 +70,7 @@ loop-done-preserved c =
 
 pub returns : goal.returns
 returns c =
-    let e : c.loop-done.-done ≡ c.args.k = omega arith in (
+    let e : c.loop-done._done ≡ c.args.k = omega arith in (
       c.loop-done.invariant.0.0,
       subst (λ i. Drawn c.args.lines.now c.args.left.now c.loop-done.left c.args.a c.args.b i c.loop-done.invariant.0.0 c.loop-done.store c.loop-done.top) e c.loop-done.invariant.0.1,
     )

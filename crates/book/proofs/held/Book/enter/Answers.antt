@@ -26,8 +26,8 @@ same_row n h h' w w' e f = rw (e, f) refl
 pub tell-requires : goal.tell-requires
 tell-requires g c =
     let b = c.args.self.now in let ls = vec_items b.lines in
-    let ready = c.in-ok-length.ensures in let plan = ready.planned in
-    let w = c.in-ok-length.length in let list = c.plan.new.list in
+    let ready = c.in_ok-length.ensures in let plan = ready.planned in
+    let w = c.in_ok-length.length in let list = c.plan.new.list in
     let e = front w list (written (λ p. p) plan.routes) plan.listed in
     record {
       inside = λ p h. subst (λ (l : List Line). p < length l) (sym c.deref.ensures.value) (told_inside ls _ _ _ plan.routes (take (w - 0) list) plan.chosen e p h);
@@ -37,8 +37,8 @@ tell-requires g c =
 pub take_lines-self-requires : goal.take_lines-self-requires
 take_lines-self-requires g c =
     let b = c.args.self.now in let ls = vec_items b.lines in
-    let ready = c.in-ok-length.ensures in let plan = ready.planned in
-    let w = c.in-ok-length.length in let list = c.plan.new.list in
+    let ready = c.in_ok-length.ensures in let plan = ready.planned in
+    let w = c.in_ok-length.length in let list = c.plan.new.list in
     let e = front w list (written (λ p. p) plan.routes) plan.listed in
     record {
       few_sites = omega (arith, b.few_sites, c.len-sites.ensures);
@@ -47,29 +47,29 @@ take_lines-self-requires g c =
       inside = λ p h. omega (arith, told_inside ls _ _ _ plan.routes (take (w - 0) list) plan.chosen e p h, b.lines.ok.0);
     }
 
-pub overflow-sub-length : goal.overflow-sub-length
-overflow-sub-length g c =
+pub overflow_sub-length : goal.overflow_sub-length
+overflow_sub-length g c =
     let b = c.args.self.now in let ls = vec_items b.lines in
-    let ready = c.in-ok-length.ensures in let plan = ready.planned in
-    let w = c.in-ok-length.length in let list = c.plan.new.list in
+    let ready = c.in_ok-length.ensures in let plan = ready.planned in
+    let w = c.in_ok-length.length in let list = c.plan.new.list in
     let e = front w list (written (λ p. p) plan.routes) plan.listed in
     omega (arith, told_length ls _ _ _ plan.routes (take (w - 0) list) plan.chosen e, front_length w list plan.room)
 
 pub push_reserved-requires : goal.push_reserved-requires
 push_reserved-requires g c =
     let b = c.args.self.now in let ls = vec_items b.lines in
-    let ready = c.in-ok-length.ensures in let plan = ready.planned in let rs = plan.routes in
-    let w = c.in-ok-length.length in let list = c.plan.new.list in let xs = take (w - 0) list in
+    let ready = c.in_ok-length.ensures in let plan = ready.planned in let rs = plan.routes in
+    let w = c.in_ok-length.length in let list = c.plan.new.list in let xs = take (w - 0) list in
     let e = front w list (written (λ p. p) rs) plan.listed in
     let free = lines_left ls _ _ _ rs xs plan.chosen e in
     (room_left b free.0 (lines_on rs) free.1 (omega (arith, ready.some, told_some ls _ _ _ rs xs plan.chosen e ready.two))).0
 
-pub invariant-of-self : goal.invariant-of-self
-invariant-of-self g c =
+pub invariant_of-self : goal.invariant_of-self
+invariant_of-self g c =
     let b = c.args.self.now in let ls = vec_items b.lines in let ls' = vec_items c.take_lines-self.new.lines in
     let rows = vec_items b.standing in let n = b.count + 1 in let k = c.args.k in
-    let ready = c.in-ok-length.ensures in let plan = ready.planned in let rs = plan.routes in
-    let w = c.in-ok-length.length in let list = c.plan.new.list in let xs = take (w - 0) list in
+    let ready = c.in_ok-length.ensures in let plan = ready.planned in let rs = plan.routes in
+    let w = c.in_ok-length.length in let list = c.plan.new.list in let xs = take (w - 0) list in
     let e = front w list (written (λ p. p) rs) plan.listed in
     let size = given_size ls _ _ _ rs xs plan.chosen e n ls' c.take_lines-self.ensures.items in
     let line = given_line ls _ _ _ rs xs plan.chosen e n ls' c.take_lines-self.ensures.items in
@@ -131,8 +131,8 @@ pub returns : goal.returns
 returns g c =
     let b = c.args.self.now in let ls = vec_items b.lines in let ls' = vec_items c.take_lines-self.new.lines in
     let rows = vec_items b.standing in let n = b.count + 1 in let k = c.args.k in
-    let ready = c.in-ok-length.ensures in let plan = ready.planned in let rs = plan.routes in
-    let w = c.in-ok-length.length in let list = c.plan.new.list in let xs = take (w - 0) list in
+    let ready = c.in_ok-length.ensures in let plan = ready.planned in let rs = plan.routes in
+    let w = c.in_ok-length.length in let list = c.plan.new.list in let xs = take (w - 0) list in
     let e = front w list (written (λ p. p) rs) plan.listed in
     let size = given_size ls _ _ _ rs xs plan.chosen e n ls' c.take_lines-self.ensures.items in
     let line = given_line ls _ _ _ rs xs plan.chosen e n ls' c.take_lines-self.ensures.items in

@@ -46,9 +46,9 @@ tree_of-self-requires g c =
       joined = subst₂ (λ (m : ℕ) (l : List Line). AllJoin m l) (sym n) (sym ls) facts.joined;
     }
 
-pub invariant-of-self : goal.invariant-of-self
+pub invariant_of-self : goal.invariant_of-self
 unfolding total_held
-invariant-of-self g c =
+invariant_of-self g c =
     let b = c.args.self.now in
     let bytes = c.args.file.now.bytes.now in
     let ok = c.requires.accepted in

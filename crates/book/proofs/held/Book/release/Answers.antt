@@ -8,8 +8,8 @@ use Rattle.book.proofs.Rows.{sound_without, sound_own, shown_without, held_witho
 use Rattle.book.proofs.Marks.{free_back, owned_rest, owned_gone}
 use Rattle.book.proofs.held.Book.release.Goals as goal
 
-pub invariant-of-self : goal.invariant-of-self
-invariant-of-self g c =
+pub invariant_of-self : goal.invariant_of-self
+invariant_of-self g c =
     let b = c.args.self.now in
     let ls = vec_items b.lines in
     let ls' = vec_items c.free_lines-self.new.lines in

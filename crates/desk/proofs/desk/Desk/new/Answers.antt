@@ -1,7 +1,7 @@
 use Rattle.network.proofs.Lists.{every_none, distinct_none}
 use Rattle.desk.proofs.desk.Desk.new.Goals as goal
 
-pub invariant-of-result : goal.invariant-of-result
-invariant-of-result g c =
-    let p = c.in-ok-passes.ensures in
+pub invariant_of-result : goal.invariant_of-result
+invariant_of-result g c =
+    let p = c.in_ok-passes.ensures in
     (p.1, (simp p.0 (every_none _), (simp p.0 (every_none _), (simp p.0 distinct_none, tt))))

@@ -1,8 +1,8 @@
 use Rattle.desk.proofs.Keeping.{kept_opened}
 use Rattle.desk.proofs.desk.Desk.open.Goals as goal
 
-pub invariant-of-self : goal.invariant-of-self
-invariant-of-self g c =
+pub invariant_of-self : goal.invariant_of-self
+invariant_of-self g c =
     let d = c.args.self.now in
     let h = kept_opened d _ _ _ _ c.«open».ensures.opened in
     (d.room, (h.marked, (h.standing, (h.apart, tt))))

@@ -3,8 +3,8 @@ use Rattle.desk.specs.Desks.{passes_of}
 use Rattle.desk.proofs.Keeping.{kept_of, inside, good_of, accepted, never_denied, kept_removed}
 use Rattle.desk.proofs.desk.Desk.release_at.Goals as goal
 
-pub invariant-of-self : goal.invariant-of-self
-invariant-of-self g c =
+pub invariant_of-self : goal.invariant_of-self
+invariant_of-self g c =
     let d = c.args.self.now in
     let q = good_of d c.args.place c.remove.result c.requires c.remove.ensures.value in
     let a = accepted d.book c.remove.result.ticket c.release.new.self c.release.result q.mark q.stands_there c.release.ensures in

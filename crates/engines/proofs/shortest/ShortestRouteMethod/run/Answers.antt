@@ -28,8 +28,8 @@ units-preserved c = record { marked = c.augment.ensures.sound; balanced = more (
 pub units-smaller : goal.units-smaller
 units-smaller c = omega (arith, room (goal.at.units-smaller c).After-augment)
 
-pub overflow-add-value : goal.overflow-add-value
-overflow-add-value c = omega (arith, room (goal.at.overflow-add-value c).After-augment, c.requires.task.few_lines)
+pub overflow_add-value : goal.overflow_add-value
+overflow_add-value c = omega (arith, room (goal.at.overflow_add-value c).After-augment, c.requires.task.few_lines)
 
 pub returns : goal.returns
 returns c =
