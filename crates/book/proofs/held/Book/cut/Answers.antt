@@ -10,5 +10,5 @@ returns g c =
       sites_pass b x y p q t None,
       c.parted-level.ensures.value ∙ sym (level_there b x y p q t),
       side_there b x y p q t c.parted-level.result.0 c.parted-level.result.1 c.parted-level.ensures.parted,
-      size_ones 64 c.parted-level.result.1 (omega (arith, c.parted-level.type-inv)),
+      size_ones 64 c.parted-level.result.1 (omega (arith, c.parted-level.type_inv)),
     )

@@ -83,49 +83,23 @@ invariant_of-self g c =
     let row : Standing = record { number = n; held = w - k; length = w } in
     let told : length (take (w - 0) c.tell.new.numbers) ≡ w = front_length w c.tell.new.numbers (omega (arith, plan.room, c.plan.auto.list, c.tell.auto.numbers)) in
     let ok = c.extend_from_slice.ensures.succeeds (omega (arith, told, many, total, some, (room_left b (free_count ls') (lines_on rs) free (omega (arith, ready.some, some))).1)) in
-    let more : vec_len c.extend_from_slice.new.self ≡ vec_len b.shown + length (take (w - 0) c.tell.new.numbers) = rw ok at c.extend_from_slice.ensures.len in (
-      search rules,
-      (
-        search rules,
-        (
-          search rules,
-          (
-            omega (arith, b.shown_room, c.extend_from_slice.ensures.capacity),
-            (
-              search rules,
-              (
-                search rules,
-                (
-                  subst (λ (m : ℕ). AllJoin m ls') c.len-sites.ensures c.take_lines-self.ensures.joined,
-                  (
-                    (let h = held_push row rows in let i = ap total_held c.push_reserved.ensures.items in omega (arith, i, h, held, free, b.parted, c.take_lines-self.ensures.len)),
-                    (
-                      ap total_shown c.push_reserved.ensures.items ∙ shown_push row rows ∙ omega (arith, b.totals, more, told),
-                      (
-                        rw c.push_reserved.ensures.items (sound_push row ls ls' 0 b.count rows b.rises (λ m l. other m (omega arith)) (new ∙ sym held) (omega (arith, held, some, ready.some)) (omega (arith, held, many, total, some)) (omega arith)),
-                        (
-                          (λ m l. other m (omega (arith, l)) ∙ b.given m (omega (arith, l))),
-                          (
-                            c.take_lines-self.ensures.spans ∙ c.len-sites.ensures,
-                            (
-                              tells_moved c.len-sites.result (vec_len b.sites) ls' c.take_lines-self.result c.len-sites.ensures c.take_lines-self.ensures.tells,
-                              (
-                                (λ z. absurd (omega (arith, z, ready.opened))),
-                                tt,
-                              ),
-                            ),
-                          ),
-                        ),
-                      ),
-                    ),
-                  ),
-                ),
-              ),
-            ),
-          ),
-        ),
-      ),
-    )
+    let more : vec_len c.extend_from_slice.new.self ≡ vec_len b.shown + length (take (w - 0) c.tell.new.numbers) = rw ok at c.extend_from_slice.ensures.len in
+    record {
+      site_room = search rules;
+      line_room = search rules;
+      row_room = search rules;
+      shown_room = omega (arith, b.shown_room, c.extend_from_slice.ensures.capacity);
+      few_sites = search rules;
+      few_lines = search rules;
+      joined = subst (λ (m : ℕ). AllJoin m ls') c.len-sites.ensures c.take_lines-self.ensures.joined;
+      parted = let h = held_push row rows in let i = ap total_held c.push_reserved.ensures.items in omega (arith, i, h, held, free, b.parted, c.take_lines-self.ensures.len);
+      totals = ap total_shown c.push_reserved.ensures.items ∙ shown_push row rows ∙ omega (arith, b.totals, more, told);
+      rises = rw c.push_reserved.ensures.items (sound_push row ls ls' 0 b.count rows b.rises (λ m l. other m (omega arith)) (new ∙ sym held) (omega (arith, held, some, ready.some)) (omega (arith, held, many, total, some)) (omega arith));
+      given = λ m l. other m (omega (arith, l)) ∙ b.given m (omega (arith, l));
+      spans = c.take_lines-self.ensures.spans ∙ c.len-sites.ensures;
+      tells = tells_moved c.len-sites.result (vec_len b.sites) ls' c.take_lines-self.result c.len-sites.ensures c.take_lines-self.ensures.tells;
+      unopened = λ z. absurd (omega (arith, z, ready.opened));
+    }
 
 pub returns : goal.returns
 returns g c =

@@ -60,49 +60,23 @@ invariant_of-self g c =
     let n : vec_len c.lay_sites.new.sites ≡ length (sites_in bytes) = c.lay_sites.new.sites.ok.0 ∙ ap length c.lay_sites.ensures.items in
     let m : vec_len c.lay_lines.new.lines ≡ length ls' = c.lay_lines.new.lines.ok.0 in
     let free : (p : ℕ) → p < length ls' → (line_at ls' p).state ≡ Free =
-    λ p l. ap (λ (z : List Line). (line_at z p).state) e ∙ facts.all_free p (omega (arith, l, ap length e)) in (
-      omega (arith, b.site_room, c.lay_sites.ensures.capacity),
-      (
-        omega (arith, b.line_room, c.lay_lines.ensures.capacity),
-        (
-          b.row_room,
-          (
-            b.shown_room,
-            (
-              omega (arith, n, facts.few_sites),
-              (
-                omega (arith, m, ap length e, facts.few_lines),
-                (
-                  subst₂ (λ (z : ℕ) (l : List Line). AllJoin z l) (sym n) (sym e) facts.joined,
-                  (
-                    omega (arith, ap total_held none.rows, all_free ls' free, m),
-                    (
-                      b.totals,
-                      (
-                        rw none.rows (sound_none ls' 0 b.count (omega arith)),
-                        (
-                          (λ j l. none_owned ls' free j),
-                          (
-                            c.tree_of-self.ensures.spans ∙ c.len.ensures,
-                            (
-                              tells_moved c.len.result (vec_len c.lay_sites.new.sites) ls' c.tree_of-self.result c.len.ensures c.tree_of-self.ensures.tells,
-                              (
-                                (λ z. absurd (omega (arith, z, n, facts.some_site))),
-                                tt,
-                              ),
-                            ),
-                          ),
-                        ),
-                      ),
-                    ),
-                  ),
-                ),
-              ),
-            ),
-          ),
-        ),
-      ),
-    )
+    λ p l. ap (λ (z : List Line). (line_at z p).state) e ∙ facts.all_free p (omega (arith, l, ap length e)) in
+    record {
+      site_room = omega (arith, b.site_room, c.lay_sites.ensures.capacity);
+      line_room = omega (arith, b.line_room, c.lay_lines.ensures.capacity);
+      row_room = b.row_room;
+      shown_room = b.shown_room;
+      few_sites = omega (arith, n, facts.few_sites);
+      few_lines = omega (arith, m, ap length e, facts.few_lines);
+      joined = subst₂ (λ (z : ℕ) (l : List Line). AllJoin z l) (sym n) (sym e) facts.joined;
+      parted = omega (arith, ap total_held none.rows, all_free ls' free, m);
+      totals = b.totals;
+      rises = rw none.rows (sound_none ls' 0 b.count (omega arith));
+      given = λ j l. none_owned ls' free j;
+      spans = c.tree_of-self.ensures.spans ∙ c.len.ensures;
+      tells = tells_moved c.len.result (vec_len c.lay_sites.new.sites) ls' c.tree_of-self.result c.len.ensures c.tree_of-self.ensures.tells;
+      unopened = λ z. absurd (omega (arith, z, n, facts.some_site));
+    }
 
 pub returns : goal.returns
 returns g c =

@@ -22,46 +22,20 @@ invariant_of-self g c =
     let own = sound_own ls 0 b.count j rows b.rises f.here in
     let back = free_back ls ls' j size line in
     let rest = owned_rest ls ls' j size line in
-    let items : vec_items c.remove.new.self ≡ without j rows = c.remove.ensures.items ∙ f.rest in (
-      search rules,
-      (
-        search rules,
-        (
-          search rules,
-          (
-            search rules,
-            (
-              search rules,
-              (
-                search rules,
-                (
-                  search rules,
-                  (
-                    (let t = held_without j rows f.here in let e = ap total_held items in omega (arith, e, t, back, own, b.parted, c.free_lines-self.ensures.len)),
-                    (
-                      (let t = shown_without j rows f.here in ap total_shown items ∙ omega (arith, t, b.totals, c.cut_out.ensures.len, f.many)),
-                      (
-                        rw items (sound_without ls ls' 0 b.count j rows b.rises rest),
-                        (
-                          (λ m l. elim (cases_eq j m) [ inl e ↦ ap (owned ls') (sym e) ∙ owned_gone ls ls' j size line | inr ne ↦ rest m ne ∙ b.given m l ]),
-                          (
-                            c.free_lines-self.ensures.spans ∙ c.len-sites.ensures,
-                            (
-                              tells_moved c.len-sites.result (vec_len b.sites) ls' c.free_lines-self.result c.len-sites.ensures c.free_lines-self.ensures.tells,
-                              (
-                                b.unopened,
-                                tt,
-                              ),
-                            ),
-                          ),
-                        ),
-                      ),
-                    ),
-                  ),
-                ),
-              ),
-            ),
-          ),
-        ),
-      ),
-    )
+    let items : vec_items c.remove.new.self ≡ without j rows = c.remove.ensures.items ∙ f.rest in
+    record {
+      site_room = search rules;
+      line_room = search rules;
+      row_room = search rules;
+      shown_room = search rules;
+      few_sites = search rules;
+      few_lines = search rules;
+      joined = search rules;
+      parted = let t = held_without j rows f.here in let e = ap total_held items in omega (arith, e, t, back, own, b.parted, c.free_lines-self.ensures.len);
+      totals = let t = shown_without j rows f.here in ap total_shown items ∙ omega (arith, t, b.totals, c.cut_out.ensures.len, f.many);
+      rises = rw items (sound_without ls ls' 0 b.count j rows b.rises rest);
+      given = λ m l. elim (cases_eq j m) [ inl e ↦ ap (owned ls') (sym e) ∙ owned_gone ls ls' j size line | inr ne ↦ rest m ne ∙ b.given m l ];
+      spans = c.free_lines-self.ensures.spans ∙ c.len-sites.ensures;
+      tells = tells_moved c.len-sites.result (vec_len b.sites) ls' c.free_lines-self.result c.len-sites.ensures c.free_lines-self.ensures.tells;
+      unopened = b.unopened;
+    }
