@@ -53,10 +53,7 @@ pub fn open_at_start<E: Engine>(
             }
             Err(anyhow!("the network file was denied"))
         }
-        Err(e) => {
-            let reason = format!(in rt.alloc(); "cannot read {path}: {e}")?;
-            Err(reason.into())
-        }
+        Err(e) => Err(anyhow!("cannot read {path}: {e}")),
     }
 }
 

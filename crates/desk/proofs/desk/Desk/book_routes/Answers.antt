@@ -14,4 +14,4 @@ invariant_of-self-2 g c =
     let d = c.args.self.now in
     let n = c.in_ok-ticket.ensures.booked.1 in
     let h = kept_push d.book _ _ _ _ _ (passes_of d) _ (kept_of d) n c.keep.ensures.items in
-    (omega (arith, d.room, c.keep.ensures.capacity), (h.marked, (h.standing, (h.apart, tt))))
+    record { room = omega (arith, d.room, c.keep.ensures.capacity); marked = h.marked; standing = h.standing; apart = h.apart }

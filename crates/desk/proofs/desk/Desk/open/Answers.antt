@@ -5,4 +5,4 @@ pub invariant_of-self : goal.invariant_of-self
 invariant_of-self g c =
     let d = c.args.self.now in
     let h = kept_opened d _ _ _ _ c.«open».ensures.opened in
-    (d.room, (h.marked, (h.standing, (h.apart, tt))))
+    record { room = d.room; marked = h.marked; standing = h.standing; apart = h.apart }

@@ -10,7 +10,7 @@ invariant_of-self g c =
     let a = accepted d.book c.remove.result.ticket c.release.new.self c.release.result q.mark q.stands_there c.release.ensures in
     let h = kept_removed d.book c.release.new.self c.remove.result.ticket (passes_of d) (vec_items c.remove.new.self) c.args.place
     (kept_of d) (inside d c.args.place c.requires) q a.1 c.remove.ensures.items in
-    (omega (arith, d.room, c.remove.ensures.capacity), (h.marked, (h.standing, (h.apart, tt))))
+    record { room = omega (arith, d.room, c.remove.ensures.capacity); marked = h.marked; standing = h.standing; apart = h.apart }
 
 pub lost-requires : goal.lost-requires
 lost-requires g c =
