@@ -25,10 +25,10 @@ FourDenied (Some d) = (d.0 ≡ 3) × PartedBy 4 (worked Free) 0 1 3 d.1
 
 -- with three routes booked only 30 and 40 share a group at level 1: only they have one entry
 pub record OnlyPair (es : List ℕ) : Type 0 where
-  pub one_30_40 : slice_index_or es 2 0 ≡ slice_index es 3
-  pub two_10_20 : slice_index_or es 0 0 ≢ slice_index es 1
-  pub two_10_30 : slice_index_or es 0 0 ≢ slice_index es 2
-  pub two_20_30 : slice_index_or es 1 0 ≢ slice_index es 2
+  pub one_30_40 : slice_index es 2 ≡ slice_index es 3
+  pub two_10_20 : slice_index es 0 ≢ slice_index es 1
+  pub two_10_30 : slice_index es 0 ≢ slice_index es 2
+  pub two_20_30 : slice_index es 1 ≢ slice_index es 2
 
 pub record Happened (o : Outcome) : Type 0 where
   pub opened : o.opened ≡ true
