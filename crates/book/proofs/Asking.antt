@@ -1,10 +1,10 @@
 -- What the engine and the taking of routes answer to a book, whose calls are never declined.
-use Rattle.std.proofs.Common.{◌≡◌, ℕ, ◌+◌, ◌<◌, ◌≤◌, List, ◌++◌, length, take, drop, Some, None, sym, refl, ap, ◌∙◌, subst₂, arith}
+use Rattle.std.proofs.Common.{◌≡◌, ℕ, ◌≤◌, List, length, take, drop, Some, None, sym, ap, ◌∙◌, subst₂, arith}
 use Rattle.std.proofs.lemmas.List.{take_at, length-append}
 use Rattle.network.specs.declared.line.Line.{Line}
 use Rattle.network.specs.declared.engine.SiteWork.{SiteWork}
 use Rattle.network.specs.Cuts.{level_of}
-use Rattle.network.specs.Answers.{Task, PartedBy, Carries, Flows, Answer}
+use Rattle.network.specs.Answers.{Task, PartedBy, Carries, Answer}
 use Rattle.network.proofs.Duality.{value_is_level}
 use Rattle.routes.specs.Taking.{Fit, Taken, listed}
 use Rattle.book.specs.Plans.{Planned}

@@ -1,5 +1,5 @@
 -- What the tree of a book tells of its groups.
-use Rattle.std.proofs.Common.{◌≡◌, ℕ, ◌+◌, ◌<◌, ◌≤◌, List, length, get_or, take, drop, Some, sym, refl, ap, ◌∙◌, subst, inl, inr, arith}
+use Rattle.std.proofs.Common.{◌≡◌, ℕ, ◌<◌, List, length, get_or, take, drop, Some, sym, refl, ap, ◌∙◌, inl, inr, arith}
 use mathlib.Core.List.{is_set}
 use mathlib.Core.Logic.{∥∥₁_elim}
 use native.Mathlib.Nat.{ℕ_set}
@@ -11,7 +11,7 @@ use Rattle.network.specs.Lines.{AllJoin}
 use Rattle.network.specs.Groups.{lowest, tally, group_list, group_count}
 use Rattle.network.proofs.GroupList.{entry, lowest_below}
 use Rattle.cuttree.specs.declared.tree.Tree.{Tree}
-use Rattle.cuttree.specs.Trees.{TreeOf, GroupsTold, GroupsOf, list_in, count_in, lowest_in, is_lowest_in}
+use Rattle.cuttree.specs.Trees.{TreeOf, GroupsTold, GroupsOf, list_in, lowest_in, is_lowest_in}
 
 -- the list begins with the group list and goes on as before
 pub record Grouped (n : ℕ) (ls : List Line) (k : ℕ) (list list' : List ℕ) (r : ℕ) : Type 0 where

@@ -1,11 +1,10 @@
 -- Routes as a list of counts and positions: what a walk over such a list does.
-use Rattle.std.proofs.Common.{◌≡◌, ℕ, zero, suc, ◌+◌, ◌-◌, ◌<◌, ◌≤◌, Bool, true, false, cond, ◌||◌, eqb, ◌≢◌, List, [], ◌∷◌, ◌++◌, map, length, get_or, take, drop, set, sym, refl, ap, ◌∙◌, inl, inr, sub-one, arith, length-set}
+use Rattle.std.proofs.Common.{◌≡◌, ℕ, zero, suc, ◌+◌, ◌-◌, ◌<◌, ◌≤◌, Bool, true, false, cond, ◌||◌, ◌≢◌, List, [], ◌∷◌, ◌++◌, map, length, get_or, take, drop, set, sym, refl, ap, ◌∙◌, inl, inr, sub-one, arith, length-set}
 use Rattle.std.specs.List.{flat_map}
 use Rattle.std.proofs.lemmas.List.{drop_more, drop_all, take_more_set, append_assoc, append-nil, get_or-set_same, get_or-set_other, length-append}
-use Rattle.std.proofs.lemmas.Bool.{cases_eq, cases_Bool, eq-eqb, ne_eqb, cond-true}
+use Rattle.std.proofs.lemmas.Bool.{cases_eq, eq-eqb, ne_eqb}
 use Rattle.network.specs.declared.line.Line.{Line}
-use Rattle.network.specs.declared.line.LineState.{LineState}
-use Rattle.network.specs.declared.line.LineState.TheVariants.{Free, Held}
+use Rattle.network.specs.declared.line.LineState.TheVariants.{Held}
 use Rattle.network.specs.Lines.{line_at, no_line}
 use Rattle.network.specs.Lists.{among}
 use Rattle.network.specs.Routes.{number_at, on_any, written}

@@ -1,14 +1,14 @@
 -- The checks of questions and bookings, from the places of two sites on, and the room that is left for a booking.
-use Rattle.std.proofs.Common.{◌≡◌, ℕ, ◌+◌, ◌*◌, ◌<◌, ◌≤◌, Bool, true, false, eqb, ltb, leb, List, length, is_some, Some, None, Ok, Err, vec_len, vec_capacity, Option, Result, sym, refl, ap, ◌∙◌, subst, subst₂, arith}
+use Rattle.std.proofs.Common.{◌≡◌, ℕ, ◌+◌, ◌*◌, ◌<◌, ◌≤◌, false, List, Some, Ok, Err, vec_len, vec_capacity, Option, Result, sym, refl, ap, ◌∙◌, subst, arith}
 use Rattle.std.proofs.lemmas.Bool.{ne_eqb, lt-ltb, le-ltb, lt-leb}
 use Rattle.network.specs.Cuts.{level_of}
 use Rattle.network.specs.Answers.{PartedBy}
 use Rattle.book.specs.declared.fault.Fault.{Fault}
 use Rattle.book.specs.declared.fault.Fault.TheVariants.{TooFewRoutes}
 use Rattle.book.specs.declared.held.Book.{Book}
-use Rattle.book.specs.Grounds.{Ground, ground_of, too_few, check}
-use Rattle.book.specs.Calls.{sites_of, lines_of, rows_of, size_of, place, place_in, sites_check, booking_check, book_level, SideOf, FewShown, k_out}
-use Rattle.book.specs.Plans.{TwoPlaces, Planned, Chosen, Prepared}
+use Rattle.book.specs.Grounds.{Ground, ground_of}
+use Rattle.book.specs.Calls.{sites_of, lines_of, rows_of, size_of, sites_check, book_level, SideOf, FewShown, k_out}
+use Rattle.book.specs.Plans.{TwoPlaces, Chosen, Prepared}
 use Rattle.book.specs.Tables.{free_count}
 use Rattle.book.proofs.Places.{place_is}
 use Rattle.book.proofs.Rows.{sound_length, sound_shown}

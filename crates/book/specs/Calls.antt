@@ -1,6 +1,6 @@
 -- One relation for each call on a book: the book at entry, the arguments, every list at entry and at exit, the book at
 -- exit and the result. Each begins with the first check that applies.
-use Rattle.std.specs.Prelude.{◌≡◌, ℕ, ◌+◌, ◌<◌, ◌≤◌, Bool, true, false, cond, not, ◌&&◌, ◌||◌, List, [], ◌∷◌, ◌++◌, map, length, take, drop, is_some, Some, None, Ok, Err, vec_items, vec_len, Option, Result, ◌==◌, nat_le, nat_lt, slice_index_or}
+use Rattle.std.specs.Prelude.{◌≡◌, ℕ, ◌+◌, ◌<◌, Bool, cond, not, ◌||◌, List, [], ◌∷◌, ◌++◌, map, length, take, drop, is_some, Some, None, Ok, Err, vec_items, Option, Result, ◌==◌, nat_le, nat_lt, slice_index_or}
 use Rattle.network.specs.declared.line.Line.{Line}
 use Rattle.network.specs.declared.line.LineState.TheVariants.{Free, Held}
 use Rattle.network.specs.declared.site.Site.{Site}
@@ -21,7 +21,7 @@ use Rattle.book.specs.declared.ticket.Denied.{Denied}
 use Rattle.book.specs.declared.held.Book.{Book}
 use Rattle.book.specs.Ledger.{with_state}
 use Rattle.book.specs.Tables.{held_by, lines_on, stands, offset_of, length_of, without}
-use Rattle.book.specs.Grounds.{Ground, already_open, file_fault, no_site, same_site, level_out, numbers_spent, too_few, no_booking, list_short, ground_of, check, file_check}
+use Rattle.book.specs.Grounds.{Ground, already_open, no_site, same_site, level_out, numbers_spent, too_few, no_booking, list_short, ground_of, check, file_check}
 
 -- the place of the first site of a number, where there is one
 abbrev pub place_in : List Site → ℕ → Option ℕ

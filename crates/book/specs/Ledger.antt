@@ -1,7 +1,7 @@
 -- The ledger: what a caller could write down with a pencil. It is fed each call's arguments, whether the call was
 -- accepted and, with an accepted booking, the numbers that a showing of the new ticket writes. It names nothing of the
 -- program's.
-use Rattle.std.specs.Prelude.{ℕ, zero, suc, ◌+◌, Bool, true, false, cond, List, [], ◌∷◌, ◌++◌, map, length, ◌==◌}
+use Rattle.std.specs.Prelude.{ℕ, suc, ◌+◌, cond, List, [], ◌∷◌, ◌++◌, map, length, ◌==◌}
 use Rattle.std.specs.List.{range_with_len}
 use Rattle.network.specs.declared.line.Line.{Line}
 use Rattle.network.specs.declared.line.LineState.{LineState}

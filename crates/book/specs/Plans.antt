@@ -11,7 +11,7 @@ use Rattle.book.specs.declared.tables.Stretch.{Stretch}
 use Rattle.book.specs.declared.ticket.Ticket.{Ticket}
 use Rattle.book.specs.Grounds.{Ground, ground_of, no_booking}
 use Rattle.book.specs.Listings.{Found}
-use Rattle.book.specs.Calls.{place_in, ticket_check, rows_of, sites_of, lines_of, size_of, sites_check, place, booking_check, FewShown}
+use Rattle.book.specs.Calls.{place_in, ticket_check, rows_of, sites_of, lines_of, sites_check, place, booking_check, FewShown}
 
 -- k separate routes of free lines stand at the front of the list, as w counts and positions
 pub record Planned (ls : List Line) (a b k : ℕ) (list : List ℕ) (w : ℕ) : Type 0 where

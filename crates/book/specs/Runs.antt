@@ -1,5 +1,5 @@
 -- Runs: every book and ledger that any calls lead to, and the law of all of them.
-use Rattle.std.specs.Prelude.{◌≡◌, ℕ, ◌^◌, ◌<◌, ◌≤◌, Bool, true, false, ◌≢◌, ◌⊎◌, ◌↔◌, List, [], ◌∷◌, ◌++◌, map, length, drop, is_ok, Some, None, Ok, Err, Option, Result, slice_index, slice_index_or}
+use Rattle.std.specs.Prelude.{◌≡◌, ℕ, ◌^◌, ◌<◌, ◌≤◌, true, false, ◌≢◌, ◌⊎◌, ◌↔◌, List, [], ◌∷◌, ◌++◌, map, length, drop, is_ok, Some, None, Ok, Err, Result, slice_index, slice_index_or}
 use Rattle.network.specs.declared.line.LineState.{LineState}
 use Rattle.network.specs.declared.line.LineState.TheVariants.{Free, Held}
 use Rattle.network.specs.Lines.{line_at}

@@ -1,9 +1,8 @@
 -- A booking and its release leave a desk as it was, but for the count of bookings.
-use Rattle.std.proofs.Common.{◌≡◌, ℕ, ◌+◌, ◌<◌, Bool, true, false, cond, eqb, List, [], ◌∷◌, ◌++◌, length, get_or, Some, None, Ok, Err, vec_items, Option, sym, refl, ap, ◌∙◌, subst, inl, inr, arith, rules}
+use Rattle.std.proofs.Common.{◌≡◌, ℕ, ◌+◌, ◌<◌, Bool, true, false, cond, List, [], ◌∷◌, ◌++◌, length, get_or, Some, None, Option, sym, refl, ap, ◌∙◌, subst, arith, rules}
 use Rattle.std.specs.List.{remove}
 use Rattle.std.proofs.lemmas.List.{ext_get_or}
-use Rattle.std.proofs.lemmas.Bool.{eq-eqb, cases_Bool}
-use Rattle.std.proofs.lemmas.Bool.Decides.{nat_tests}
+use Rattle.std.proofs.lemmas.Bool.{eq-eqb}
 use Rattle.network.specs.declared.line.Line.{Line}
 use Rattle.network.specs.declared.line.LineState.TheVariants.{Free, Held}
 use Rattle.network.specs.Lines.{line_at, no_line}
@@ -14,7 +13,7 @@ use Rattle.book.specs.Calls.{sites_of, lines_of, Taken, Freed}
 use Rattle.desk.specs.declared.pass.Pass.{Pass}
 use Rattle.desk.specs.declared.desk.Desk.{Desk}
 use Rattle.desk.specs.Passes.{pass_with, numbers_of}
-use Rattle.desk.specs.Desks.{passes_of, Took, Kept, EndedAt, EndedNext}
+use Rattle.desk.specs.Desks.{passes_of, Kept, EndedAt, EndedNext}
 use Rattle.capi.specs.Calls.{Idle, booking_number}
 
 -- a free line that a booking takes or leaves, and that its release frees or leaves

@@ -1,18 +1,17 @@
 -- The table of worked cases. Most are computed; that three routes from 10 to 20 take just four lines is shown by
 -- following every route.
-use Rattle.std.proofs.Common.{◌≡◌, ℕ, zero, suc, ◌^◌, ◌<◌, ◌≤◌, Bool, true, false, not, ◌&&◌, ◌||◌, eqb, ltb, ◌⊎◌, List, [], ◌∷◌, length, sym, refl, ap, ◌∙◌, subst, inl, inr, arith}
+use Rattle.std.proofs.Common.{◌≡◌, ℕ, zero, suc, ◌<◌, Bool, true, false, not, ◌&&◌, ◌||◌, eqb, ltb, ◌⊎◌, List, [], ◌∷◌, sym, refl, ap, ◌∙◌, subst, inl, inr, arith}
 use Rattle.std.proofs.lemmas.Bool.{and_parts, and_from, or_cases, not-true, eqb-true, eq-eqb, false≢true, cases_eq}
 use Rattle.std.proofs.lemmas.Bool.Decides.{nat_tests}
-use Rattle.network.specs.declared.line.Line.{Line}
-use Rattle.network.specs.declared.line.LineState.TheVariants.{Free, Held}
+use Rattle.network.specs.declared.line.LineState.TheVariants.{Free}
 use Rattle.network.specs.Lines.{line_at}
 use Rattle.network.specs.Sides.{member}
 use Rattle.network.specs.Cuts.{crossing, crossing_by, least, level_of}
 use Rattle.network.specs.Groups.{lowest_by}
 use Rattle.network.specs.Lists.{among, distinct, every, meet}
-use Rattle.network.specs.Routes.{touches, other_end, chained, stops, end_of, route, separate, meets_any, on_any, SeparateRoutes, FreeRoutes}
+use Rattle.network.specs.Routes.{touches, other_end, chained, stops, end_of, route, separate, meets_any, on_any, FreeRoutes}
 use Rattle.network.specs.Answers.{PartedBy}
-use Rattle.cases.specs.Table.{worked, relayed, WorkedCases}
+use Rattle.cases.specs.Table.{worked, WorkedCases}
 use Rattle.cases.proofs.Steps.{Onward, Stepped, onward_from_route, stepped, at_end}
 
 -- one of the five lines

@@ -1,5 +1,5 @@
 -- What the worked calls come to.
-use Rattle.std.specs.Prelude.{◌≡◌, ℕ, true, ◌≢◌, List, Some, None, Option, slice_index, slice_index_or}
+use Rattle.std.specs.Prelude.{◌≡◌, ℕ, true, ◌≢◌, List, Some, None, Option, slice_index}
 use Rattle.network.specs.declared.line.LineState.TheVariants.{Free}
 use Rattle.network.specs.Answers.{PartedBy}
 use Rattle.book.specs.declared.fault.Fault.{Fault}

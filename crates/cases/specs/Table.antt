@@ -1,5 +1,5 @@
 -- Worked cases on two small networks, as the definitions compute them.
-use Rattle.std.specs.Prelude.{◌≡◌, ℕ, Bool, true, not, ◌&&◌, List, [], ◌∷◌, map, nat_lt, slice_index}
+use Rattle.std.specs.Prelude.{◌≡◌, ℕ, true, not, ◌&&◌, List, [], ◌∷◌, map, nat_lt, slice_index}
 use Rattle.network.specs.declared.line.Line.{Line}
 use Rattle.network.specs.declared.line.LineState.{LineState}
 use Rattle.network.specs.declared.line.LineState.TheVariants.{Free, Held}

@@ -1,5 +1,5 @@
 -- One step of the builder: a pair that is done, and a pair that is split.
-use Rattle.std.proofs.Common.{◌≡◌, ℕ, suc, ◌+◌, ◌-◌, ◌^◌, ◌<◌, true, not, List, [], ◌∷◌, length, set, sym, refl, ap, ◌∙◌, inl, inr, add-one, get_or-set_other, get_or-set_same}
+use Rattle.std.proofs.Common.{◌≡◌, ℕ, suc, ◌+◌, ◌-◌, ◌^◌, ◌<◌, true, List, [], ◌∷◌, length, set, sym, refl, ap, ◌∙◌, inl, inr, add-one, get_or-set_other, get_or-set_same}
 use Rattle.std.proofs.lemmas.Bool.{and_parts, and_from, not_from_false}
 use Rattle.network.specs.declared.line.Line.{Line}
 use Rattle.network.specs.Sides.{member, size_below}

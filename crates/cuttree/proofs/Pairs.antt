@@ -1,5 +1,5 @@
 -- Pending pairs: the next place to join, and the split along a side.
-use Rattle.std.proofs.Common.{◌≡◌, ℕ, ◌<◌, Bool, true, false, not, ◌&&◌, eqb, ◌≢◌, Some, None, Option, sym, refl, ap, ◌∙◌, inl, inr, MatchOption}
+use Rattle.std.proofs.Common.{◌≡◌, ℕ, ◌<◌, Bool, true, false, not, ◌&&◌, eqb, Some, None, Option, sym, refl, ap, ◌∙◌, inl, inr, MatchOption}
 use lib.Bits.{bit_xor}
 use Rattle.std.proofs.lemmas.Bool.{eqb-true, eqb-false, and_parts, and_cases, not-true, not-false, false≢true}
 use Rattle.network.specs.Sides.{member, differ}

@@ -1,16 +1,16 @@
 -- Why a desk has room for every ticket, and why no release of its own is denied.
-use Rattle.std.proofs.Common.{◌≡◌, ℕ, suc, ◌+◌, ◌<◌, ◌≤◌, Bool, true, false, cond, not, ◌||◌, eqb, ◌≢◌, List, [], ◌∷◌, ◌++◌, map, length, get_or, Some, None, Ok, Err, vec_len, Option, Result, sym, refl, ap, ◌∙◌, inl, inr, arith}
+use Rattle.std.proofs.Common.{◌≡◌, ℕ, ◌+◌, ◌<◌, ◌≤◌, true, false, ◌||◌, eqb, ◌≢◌, List, [], ◌∷◌, ◌++◌, map, length, get_or, Some, None, Ok, Err, vec_len, Result, sym, refl, ap, ◌∙◌, inl, inr, arith}
 use Rattle.std.proofs.lemmas.List.{length-map, length_push, get_or-map}
-use Rattle.std.proofs.lemmas.Bool.{cases_Bool, cases_eq, both_ways, eq-eqb, ne_eqb, eqb-true, false≢true, and_from}
+use Rattle.std.proofs.lemmas.Bool.{cases_Bool, cases_eq, both_ways, eq-eqb, ne_eqb, eqb-true, false≢true}
 use Rattle.std.specs.List.{remove}
 use Rattle.network.specs.declared.line.Line.{Line}
-use Rattle.network.specs.Lists.{among, distinct, every}
-use Rattle.network.proofs.Lists.{among_nil, among_here, among_skip, among_cases, among_by_test, distinct_append, distinct_cons, distinct_none, distinct_fits, every_none, every_cons, every_parts, every_append, every_among, every_from_among, meet_from_among, every_get_or}
+use Rattle.network.specs.Lists.{among, distinct}
+use Rattle.network.proofs.Lists.{among_nil, among_skip, among_by_test, distinct_append, distinct_cons, distinct_none, distinct_fits, every_none, every_cons, every_parts, every_among, every_from_among, meet_from_among, every_get_or}
 use Rattle.book.specs.declared.standing.Standing.{Standing}
 use Rattle.book.specs.declared.ticket.Ticket.{Ticket}
 use Rattle.book.specs.declared.ticket.Denied.{Denied}
 use Rattle.book.specs.declared.held.Book.{Book}
-use Rattle.book.specs.Grounds.{Ground, no_booking}
+use Rattle.book.specs.Grounds.{Ground}
 use Rattle.book.specs.declared.fault.Fault.{Fault}
 use Rattle.book.specs.Calls.{rows_of, lines_of, size_of, opening_check, Opened, Taken, Freed, Released, ticket_check}
 use Rattle.book.specs.Tables.{stands, without, sound, total_held, free_count}

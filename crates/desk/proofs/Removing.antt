@@ -1,9 +1,9 @@
 -- A list from which the element at one place is removed.
-use Rattle.std.proofs.Common.{◌≡◌, ℕ, zero, suc, ◌<◌, Bool, true, false, List, [], ◌∷◌, ◌++◌, map, length, get_or, sym, refl, ap, ◌∙◌, inl, inr, arith}
+use Rattle.std.proofs.Common.{◌≡◌, ℕ, zero, suc, ◌<◌, Bool, true, false, List, [], ◌∷◌, map, length, get_or, refl, ap, inl, inr, arith}
 use Rattle.std.proofs.lemmas.Bool.{cases_Bool, both_ways}
 use Rattle.std.specs.List.{remove}
 use Rattle.network.specs.Lists.{among, distinct, every}
-use Rattle.network.proofs.Lists.{among_here, among_later, among_cases, among_get_or, among_nil, distinct_cons, distinct_parts, every_cons, every_parts}
+use Rattle.network.proofs.Lists.{among_here, among_later, among_cases, among_get_or, distinct_cons, distinct_parts, every_cons, every_parts}
 
 pub map_removed : {X Y : Type 0} (f : X → Y) (xs : List X) (i : ℕ) → map f (remove xs i) ≡ remove (map f xs) i
 map_removed f [] zero = refl

@@ -1,9 +1,9 @@
 -- What the absence of a fault says of the bytes.
-use Rattle.std.proofs.Common.{◌≡◌, ℕ, ◌+◌, ◌*◌, ◌/◌, ◌%◌, ◌<◌, ◌≤◌, Bool, true, false, ◌&&◌, eqb, ltb, leb, List, length, get_or, Some, None, Option, sym, refl, ◌∙◌, arith}
+use Rattle.std.proofs.Common.{◌≡◌, ℕ, ◌*◌, ◌%◌, ◌<◌, ◌≤◌, Bool, true, false, List, length, Some, None, Option, refl, arith}
 use Rattle.std.proofs.lemmas.Bool.{and_parts, leb-true, ltb-true, eqb-true}
 use Rattle.netfile.specs.Search.{or_else}
 use Rattle.netfile.specs.Layout.{site_offset, site_length, line_offset, line_length, site_end, line_end, site_count, line_count}
-use Rattle.netfile.specs.Meaning.{unless, carried, size_fault, signature_fault, edition_fault, pair_count_fault, parts_fault, lengths_fault, file_fault, rising_fault, ends_fault, record_fault, first_fault}
+use Rattle.netfile.specs.Meaning.{unless, carried, size_fault, signature_fault, edition_fault, pair_count_fault, parts_fault, lengths_fault, file_fault, rising_fault, ends_fault, first_fault}
 
 -- neither of two is there
 pub neither : {X : Type 0} (a b : Option X) → or_else a b ≡ None → (a ≡ None) × (b ≡ None)

@@ -1,5 +1,5 @@
 -- Checks one after another: what the first fault of a chain says of the checks of a range of numbers.
-use Rattle.std.proofs.Common.{◌≡◌, ℕ, suc, ◌+◌, ◌<◌, ◌≤◌, Bool, true, false, ◌⊎◌, Some, None, Option, sym, refl, subst, inl, inr, arith}
+use Rattle.std.proofs.Common.{◌≡◌, ℕ, ◌+◌, ◌<◌, ◌≤◌, Bool, true, false, Some, None, Option, sym, refl, subst, inl, inr, arith}
 use Rattle.std.proofs.lemmas.Bool.{cases_lt}
 use Rattle.netfile.specs.declared.faults.NetworkFault.{NetworkFault}
 use Rattle.netfile.specs.Faults.{number_of, place_of}

@@ -1,5 +1,5 @@
 -- The first line that does not join two sites of the file.
-use Rattle.std.proofs.Common.{◌≡◌, ℕ, ◌<◌, true, false, List, Some, None, Option, refl}
+use Rattle.std.proofs.Common.{◌≡◌, ℕ, ◌<◌, true, false, List, Some, None}
 use Rattle.netfile.specs.declared.faults.NetworkFault.TheVariants.{Ends}
 use Rattle.netfile.specs.Layout.{line_count, line_start}
 use Rattle.netfile.specs.Meaning.{wrong_ends, ends_fault}

@@ -1,9 +1,7 @@
 -- The first fault of any bytes is the first check that applies, at its lowest place.
-use Rattle.std.proofs.Common.{◌≡◌, ℕ, ◌+◌, ◌<◌, ◌≤◌, Bool, true, false, cond, eqb, ◌⊎◌, ◌↔◌, List, Some, None, Option, sym, refl, ◌∙◌, subst, inl, inr, arith}
+use Rattle.std.proofs.Common.{◌≡◌, ℕ, ◌<◌, ◌≤◌, false, eqb, ◌⊎◌, ◌↔◌, List, Some, None, Option, sym, refl, subst, inl, inr, arith}
 use Rattle.std.proofs.lemmas.Bool.{ne_eqb, cases_lt, cases_order}
-use Rattle.netfile.specs.declared.faults.FileFault.{FileFault}
 use Rattle.netfile.specs.declared.faults.FileFault.TheVariants.{Size, Signature, Edition, PairCount, PartBounds, PartLength}
-use Rattle.netfile.specs.declared.faults.RecordFault.{RecordFault}
 use Rattle.netfile.specs.declared.faults.RecordFault.TheVariants.{File, NotRising}
 use Rattle.netfile.specs.declared.faults.NetworkFault.{NetworkFault}
 use Rattle.netfile.specs.declared.faults.NetworkFault.TheVariants.{Record, Ends}

@@ -1,5 +1,5 @@
 -- The file layer's checks, one by one: each finds its fault exactly where it applies.
-use Rattle.std.proofs.Common.{◌≡◌, ℕ, ◌+◌, ◌%◌, ◌<◌, ◌≤◌, Bool, true, false, ◌&&◌, eqb, ltb, leb, ◌⊎◌, List, length, get_or, Some, None, Option, sym, refl, inl, inr, arith}
+use Rattle.std.proofs.Common.{◌≡◌, ℕ, ◌%◌, ◌<◌, ◌≤◌, Bool, false, ◌&&◌, eqb, ltb, leb, ◌⊎◌, List, length, get_or, refl, inl, inr, arith}
 use Rattle.std.proofs.lemmas.Bool.{and_parts, and_cases, leb-true, leb-false, ltb-true, ltb-false, eqb-true, eqb-false, eq-eqb, and_from, both_ways}
 use Rattle.netfile.specs.declared.faults.FileFault.{FileFault}
 use Rattle.netfile.specs.declared.faults.FileFault.TheVariants.{Size, Signature, Edition, PairCount, PartBounds, PartLength}
@@ -7,7 +7,7 @@ use Rattle.netfile.specs.declared.faults.RecordFault.TheVariants.{File}
 use Rattle.netfile.specs.declared.faults.NetworkFault.{NetworkFault}
 use Rattle.netfile.specs.declared.faults.NetworkFault.TheVariants.{Record}
 use Rattle.netfile.specs.Layout.{site_offset, site_length, line_offset, line_length, site_end, line_end}
-use Rattle.netfile.specs.Meaning.{carried, unless, size_fault, signature_fault, edition_fault, pair_count_fault, parts_fault, lengths_fault, file_fault}
+use Rattle.netfile.specs.Meaning.{carried, size_fault, signature_fault, edition_fault, pair_count_fault, parts_fault, lengths_fault, file_fault}
 use Rattle.netfile.specs.Checks.{Applies}
 use Rattle.netfile.proofs.Chain.{Tells, One, tells_one, tells_carried, one_unless, one_before}
 

@@ -1,7 +1,7 @@
 -- The lowest position at which a test holds.
-use Rattle.std.proofs.Common.{◌≡◌, ℕ, zero, suc, ◌+◌, ◌<◌, ◌≤◌, Bool, true, false, cond, ◌⊎◌, Some, None, Option, sym, refl, ap, ◌∙◌, subst, inl, inr, arith}
-use Rattle.std.proofs.lemmas.Bool.{cases_eq, both_ways}
-use Rattle.netfile.specs.Search.{lowest_where, or_else}
+use Rattle.std.proofs.Common.{◌≡◌, ℕ, zero, suc, ◌<◌, Bool, true, false, Some, None, sym, refl, subst, inl, inr, arith}
+use Rattle.std.proofs.lemmas.Bool.{cases_eq}
+use Rattle.netfile.specs.Search.{lowest_where}
 
 -- the test holds at i, below n, and at no position before
 pub record Lowest (P : ℕ → Bool) (n i : ℕ) : Type 0 where

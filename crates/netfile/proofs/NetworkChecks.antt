@@ -1,14 +1,14 @@
 -- The network layer's check: it finds its fault exactly where a line does not join two sites of the file.
-use Rattle.std.proofs.Common.{◌≡◌, ℕ, ◌+◌, ◌*◌, ◌<◌, ◌≤◌, Bool, true, false, not, ◌&&◌, eqb, ◌⊎◌, List, length, get_or, is_some, Some, None, Option, sym, refl, ◌∙◌, inl, inr, arith}
+use Rattle.std.proofs.Common.{◌≡◌, ℕ, ◌<◌, true, false, List, length, get_or, is_some, Some, None, Option, sym, refl, ◌∙◌, inl, inr, arith}
 use Rattle.std.proofs.lemmas.Bool.{true≢false, false≢true, and_parts, and_cases, not-true, not-false, eqb-true, eqb-false, both_ways, eq-eqb}
 use Rattle.netfile.specs.declared.faults.NetworkFault.TheVariants.{Ends}
 use Rattle.netfile.specs.Search.{lowest_where, stands_at, position_of}
-use Rattle.netfile.specs.Layout.{site_offset, line_offset, site_count, line_count, site_numbers, line_start, named_first, named_second}
+use Rattle.netfile.specs.Layout.{site_offset, line_offset, site_count, line_count, site_numbers, named_first, named_second}
 use Rattle.netfile.specs.Meaning.{at_record, wrong_ends, ends_fault}
 use Rattle.netfile.specs.Checks.{Listed, WrongEnds}
 use Rattle.netfile.proofs.Chain.{One}
 use Rattle.netfile.proofs.FileChecks.{At}
-use Rattle.netfile.proofs.Lowest.{Lowest, lowest_is, none_below}
+use Rattle.netfile.proofs.Lowest.{lowest_is, none_below}
 use Rattle.netfile.proofs.Numbers.{length_numbers, get_or_numbers}
 
 module _ (bs : List ℕ) where

@@ -1,6 +1,6 @@
 -- An accepted file holds what its bytes say.
-use Rattle.std.proofs.Common.{◌≡◌, ℕ, zero, suc, ◌+◌, ◌-◌, ◌*◌, ◌<◌, ◌≤◌, Bool, true, false, ◌⊎◌, List, length, get_or, is_some, Some, None, Option, sym, refl, ap, ◌∙◌, subst, inl, inr, arith}
-use Rattle.std.proofs.lemmas.Bool.{cases_lt, cases_order, and_parts, not-false, not-true, eqb-false, true≢false, false≢true}
+use Rattle.std.proofs.Common.{◌≡◌, ℕ, zero, suc, ◌+◌, ◌-◌, ◌<◌, true, false, List, length, is_some, Some, None, Option, sym, refl, ap, ◌∙◌, subst, inl, inr, arith}
+use Rattle.std.proofs.lemmas.Bool.{cases_lt, cases_order, and_parts, not-false, not-true, eqb-false, false≢true}
 use Rattle.std.proofs.lemmas.Option.{slice_get-get_or}
 use Rattle.std.specs.List.{slice_get}
 use Rattle.network.specs.declared.site.Site.{Site}
@@ -10,9 +10,9 @@ use Rattle.netfile.specs.declared.faults.NetworkFault.{NetworkFault}
 use Rattle.netfile.specs.declared.faults.NetworkFault.TheVariants.{Ends}
 use Rattle.netfile.specs.Search.{position_of, lowest_where}
 use Rattle.netfile.specs.Layout.{site_offset, line_offset, site_count, line_count, site_numbers, site_record, site_number, line_number, named_first, named_second, site_start, line_start}
-use Rattle.netfile.specs.Meaning.{first_fault, ends_fault, at_record, wrong_ends, sites_in, lines_in, line_record, site_place, or_zero}
+use Rattle.netfile.specs.Meaning.{first_fault, ends_fault, at_record, wrong_ends, sites_in, lines_in, line_record, or_zero}
 use Rattle.netfile.specs.Networks.{PlaceOf, LineSays, Holds, Judged}
-use Rattle.netfile.proofs.Accepted.{Bounded, file_bounded, no_fault}
+use Rattle.netfile.proofs.Accepted.{file_bounded, no_fault}
 use Rattle.netfile.proofs.FaultLaws.{none_applies, fault_is_first}
 use Rattle.netfile.proofs.Lowest.{none_below}
 use Rattle.netfile.proofs.NetworkChecks.{found_listed}

@@ -1,14 +1,11 @@
 -- The record layer's check: it finds its fault exactly where a number is not above the one before it.
-use Rattle.std.proofs.Common.{◌≡◌, ℕ, ◌+◌, ◌-◌, ◌*◌, ◌<◌, ◌≤◌, Bool, true, false, ◌&&◌, ◌⊎◌, List, length, get_or, Some, None, Option, sym, refl, ap, inl, inr, arith}
+use Rattle.std.proofs.Common.{◌≡◌, ℕ, ◌+◌, ◌-◌, ◌*◌, ◌<◌, ◌≤◌, true, false, List, length, get_or, Some, None, Option, refl, ap, inl, inr, arith}
 use Rattle.std.proofs.lemmas.Bool.{and_parts, leb-true, ltb-true, both_ways}
-use Rattle.netfile.specs.declared.faults.RecordFault.{RecordFault}
 use Rattle.netfile.specs.declared.faults.RecordFault.TheVariants.{NotRising}
-use Rattle.netfile.specs.declared.faults.NetworkFault.{NetworkFault}
 use Rattle.netfile.specs.declared.faults.NetworkFault.TheVariants.{Record}
 use Rattle.netfile.specs.Search.{or_else, falls_at, first_fall}
-use Rattle.netfile.specs.Layout.{pair_at, numbers_from, site_offset, line_offset, site_end, site_length, site_count, line_count, site_numbers, line_numbers, site_start, line_start}
+use Rattle.netfile.specs.Layout.{pair_at, numbers_from, site_offset, line_offset, site_count, line_count, site_numbers, line_numbers, site_start, line_start}
 use Rattle.netfile.specs.Meaning.{carried, at_record, rising_fault}
-use Rattle.netfile.specs.Checks.{Falls}
 use Rattle.netfile.proofs.Accepted.{Bounded}
 use Rattle.netfile.proofs.Chain.{One}
 use Rattle.netfile.proofs.FileChecks.{At}

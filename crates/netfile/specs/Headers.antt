@@ -1,6 +1,5 @@
 -- What the reader takes the header for.
 use Rattle.std.specs.Prelude.{ℕ, List}
-use Rattle.netfile.specs.declared.header.Extent.{Extent}
 use Rattle.netfile.specs.declared.header.Header.{Header}
 use Rattle.netfile.specs.Layout.{site_offset, site_length, line_offset, line_length}
 

@@ -1,10 +1,10 @@
 -- Laws of the number of free lines that cross a set of places.
-use Rattle.std.proofs.Common.{◌≡◌, ℕ, zero, suc, ◌+◌, ◌<◌, ◌≤◌, Bool, true, false, cond, not, ◌&&◌, ◌||◌, List, [], ◌∷◌, length, get_or, take, count_by, sym, refl, ap, ◌∙◌, ap₂, arith}
+use Rattle.std.proofs.Common.{◌≡◌, ℕ, suc, ◌+◌, ◌<◌, ◌≤◌, Bool, true, false, cond, not, ◌&&◌, ◌||◌, List, [], ◌∷◌, length, sym, refl, ◌∙◌, ap₂, arith}
 use Rattle.std.proofs.lemmas.List.Sums.{sum_by-cons, count_by-le-length}
 use Rattle.network.specs.declared.line.Line.{Line}
-use Rattle.network.specs.Lines.{is_free, no_line, line_at, Joins, AllJoin}
-use Rattle.network.specs.Sides.{member, differ}
-use Rattle.network.specs.Cuts.{crosses, crossing_by, crossing}
+use Rattle.network.specs.Lines.{is_free, Joins, AllJoin}
+use Rattle.network.specs.Sides.{differ}
+use Rattle.network.specs.Cuts.{crosses, crossing_by}
 
 -- what one line adds
 abbrev pub adds : (ℕ → Bool) → Line → ℕ

@@ -1,12 +1,12 @@
 -- The level of two places: it is the least crossing, and what it has to do with ties.
-use Rattle.std.proofs.Common.{◌≡◌, ℕ, zero, suc, ◌+◌, ◌^◌, ◌<◌, ◌≤◌, min, Bool, true, false, cond, not, ◌&&◌, ◌||◌, eqb, ◌≢◌, ◌⊎◌, List, [], ◌∷◌, length, sym, refl, ap, ◌∙◌, ap₂, inl, inr, arith}
+use Rattle.std.proofs.Common.{◌≡◌, ℕ, zero, suc, ◌^◌, ◌<◌, ◌≤◌, Bool, true, false, eqb, ◌≢◌, ◌⊎◌, List, length, sym, refl, ap₂, inl, inr, arith}
 use Rattle.std.proofs.lemmas.Bool.{eq-eqb, ne_eqb, cases_eq, cases_lt}
 use Rattle.network.specs.declared.line.Line.{Line}
 use Rattle.network.specs.Lines.{AllJoin}
 use Rattle.network.specs.Sides.{member, differ}
-use Rattle.network.specs.Cuts.{crosses, crossing_by, crossing, lesser, least, level_of}
+use Rattle.network.specs.Cuts.{crossing_by, crossing, lesser, least, level_of}
 use Rattle.network.proofs.Members.{side_of, side_of_below, member_side_of}
-use Rattle.network.proofs.Crossing.{crossing_le_length, crossing_same, crossing_not, submodular}
+use Rattle.network.proofs.Crossing.{crossing_le_length, crossing_same, submodular}
 use Rattle.network.proofs.Ties.{Tied, SubmodularCount, differ_comm}
 
 -- the count that the level goes by

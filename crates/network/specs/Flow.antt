@@ -1,5 +1,5 @@
 -- Marks on the lines: 0 for unused, 1 for carrying from the first place to the second, 2 for the other way.
-use Rattle.std.specs.Prelude.{◌≡◌, ℕ, ◌+◌, ◌<◌, ◌≤◌, Bool, true, false, cond, List, [], ◌∷◌, length, ◌==◌, nat_eq, slice_index}
+use Rattle.std.specs.Prelude.{◌≡◌, ℕ, ◌+◌, ◌<◌, ◌≤◌, Bool, false, cond, List, [], ◌∷◌, length, ◌==◌, nat_eq, slice_index}
 use Rattle.network.specs.declared.line.Line.{Line}
 use Rattle.network.specs.Lines.{is_free, line_at}
 

@@ -1,5 +1,5 @@
 -- Groups: the largest sets of places that hang together at a level.
-use Rattle.std.specs.Prelude.{◌≡◌, ℕ, zero, suc, ◌+◌, ◌^◌, ◌<◌, ◌≤◌, Bool, true, false, cond, ◌||◌, ◌≢◌, List, map, ◌==◌, nat_eq, nat_le, nat_lt}
+use Rattle.std.specs.Prelude.{◌≡◌, ℕ, zero, suc, ◌+◌, ◌^◌, ◌<◌, ◌≤◌, Bool, true, cond, ◌||◌, ◌≢◌, List, map, ◌==◌, nat_eq, nat_le, nat_lt}
 use Rattle.std.specs.List.{range_with_len}
 use Rattle.network.specs.declared.line.Line.{Line}
 use Rattle.network.specs.Sides.{member}

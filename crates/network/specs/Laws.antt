@@ -1,5 +1,5 @@
 -- What is proved of the words of the network.
-use Rattle.std.specs.Prelude.{◌≡◌, ℕ, ◌+◌, ◌^◌, ◌<◌, ◌≤◌, min, Bool, true, false, ◌||◌, ◌≢◌, ◌↔◌, List, map, length, bit_and, bit_or, nat_lt, slice_index}
+use Rattle.std.specs.Prelude.{◌≡◌, ℕ, ◌+◌, ◌^◌, ◌<◌, ◌≤◌, min, true, false, ◌≢◌, ◌↔◌, List, map, length, bit_and, bit_or, nat_lt, slice_index}
 use Rattle.network.specs.declared.line.Line.{Line}
 use Rattle.network.specs.declared.engine.SiteWork.{SiteWork}
 use Rattle.network.specs.Lines.{AllJoin}

@@ -1,5 +1,5 @@
 -- Lines of a network: when one is free, and which places it joins.
-use Rattle.std.specs.Prelude.{◌≡◌, ℕ, ◌<◌, Bool, true, false, List, length, ◌≢◌, slice_index_or}
+use Rattle.std.specs.Prelude.{ℕ, ◌<◌, Bool, true, false, List, length, ◌≢◌, slice_index_or}
 use Rattle.network.specs.declared.line.Line.{Line}
 use Rattle.network.specs.declared.line.LineState.{LineState}
 use Rattle.network.specs.declared.line.LineState.TheVariants.{Free, Held}

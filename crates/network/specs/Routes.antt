@@ -1,5 +1,5 @@
 -- Routes: chains of lines, by their positions in the table.
-use Rattle.std.specs.Prelude.{◌≡◌, ℕ, zero, suc, ◌+◌, Bool, true, false, cond, not, ◌&&◌, ◌||◌, List, [], ◌∷◌, ◌++◌, map, length, take, drop, ◌==◌, nat_lt}
+use Rattle.std.specs.Prelude.{◌≡◌, ℕ, zero, suc, Bool, true, false, cond, not, ◌&&◌, ◌||◌, List, [], ◌∷◌, ◌++◌, map, length, take, drop, ◌==◌, nat_lt}
 use Rattle.network.specs.declared.line.Line.{Line}
 use Rattle.network.specs.Lines.{is_free, line_at}
 use Rattle.network.specs.Lists.{among, distinct, every, meet}

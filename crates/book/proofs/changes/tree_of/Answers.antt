@@ -1,4 +1,4 @@
-use Rattle.std.proofs.Common.{◌≡◌, ◌<◌, List, length, sym, ap, ◌∙◌, subst, inl, inr, arith}
+use Rattle.std.proofs.Common.{◌<◌, List, sym, ◌∙◌, subst, inl, inr, arith}
 use Rattle.network.specs.declared.line.Line.{Line}
 use Rattle.network.specs.Lines.{AllJoin}
 use Rattle.cuttree.specs.Trees.{TreeOf}

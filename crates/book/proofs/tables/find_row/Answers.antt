@@ -1,4 +1,4 @@
-use Rattle.std.proofs.Common.{◌≡◌, arith, rules}
+use Rattle.std.proofs.Common.{arith, rules}
 use Rattle.std.proofs.lemmas.Bool.{eq-eqb, ne_eqb}
 use Rattle.book.proofs.Seeking.{sought_more, sought_found, sought_none, sought_within, sought_start}
 use Rattle.book.proofs.tables.find_row.Goals as goal

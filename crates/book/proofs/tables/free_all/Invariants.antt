@@ -1,4 +1,4 @@
-use Rattle.std.proofs.Common.{◌≡◌, ℕ, ◌<◌, ◌≤◌, cond, length, take, vec_items, vec_len, vec_capacity}
+use Rattle.std.proofs.Common.{◌≡◌, ℕ, ◌<◌, ◌≤◌, cond, vec_items, vec_len, vec_capacity}
 use Rattle.network.specs.declared.line.LineState.TheVariants.{Free}
 use Rattle.network.specs.Lines.{line_at}
 use Rattle.book.specs.Ledger.{with_state}

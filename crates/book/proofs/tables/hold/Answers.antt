@@ -1,6 +1,6 @@
-use Rattle.std.proofs.Common.{◌≡◌, ℕ, ◌+◌, ◌-◌, ◌<◌, get_or, vec_items, vec_len, vec_capacity, sym, refl, ap, ◌∙◌, subst, arith, rules}
+use Rattle.std.proofs.Common.{vec_items, vec_len, vec_capacity, refl, ap, ◌∙◌, arith}
 use Rattle.book.specs.Listings.{positions_told}
-use Rattle.book.proofs.Listings.{Giving, giving_count, giving_line, giving_inside, giving_all, given_ends}
+use Rattle.book.proofs.Listings.{giving_count, giving_line, giving_inside, giving_all, given_ends}
 use Rattle.book.proofs.tables.hold.Goals as goal
 use Rattle.book.proofs.tables.hold.Goals.{then-left-eq0, else-left-eq0}
 

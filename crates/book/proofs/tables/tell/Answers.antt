@@ -1,6 +1,6 @@
-use Rattle.std.proofs.Common.{◌≡◌, ℕ, ◌+◌, ◌-◌, ◌<◌, List, length, get_or, take, sym, refl, ap, ◌∙◌, subst, arith, rules}
+use Rattle.std.proofs.Common.{◌≡◌, ℕ, ◌<◌, length, take, refl, subst, arith}
 use Rattle.book.specs.Listings.{numbers_told}
-use Rattle.book.proofs.Listings.{Telling, telling_count, telling_line, telling_inside, telling_all}
+use Rattle.book.proofs.Listings.{telling_count, telling_line, telling_inside, telling_all}
 use Rattle.book.proofs.tables.tell.Goals as goal
 use Rattle.book.proofs.tables.tell.Goals.{then-left-eq0, else-left-eq0}
 

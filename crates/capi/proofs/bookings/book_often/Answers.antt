@@ -1,4 +1,4 @@
-use Rattle.std.proofs.Common.{◌≡◌, List, sym, ◌∙◌, ap₂}
+use Rattle.std.proofs.Common.{List, sym, ◌∙◌, ap₂}
 use Rattle.network.specs.declared.line.Line.{Line}
 use Rattle.network.specs.declared.site.Site.{Site}
 use Rattle.capi.specs.Calls.{booking_number}

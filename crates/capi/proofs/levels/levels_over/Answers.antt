@@ -1,4 +1,4 @@
-use Rattle.std.proofs.Common.{◌≡◌, ℕ, List, length, sym, ap, ◌∙◌, subst}
+use Rattle.std.proofs.Common.{◌≡◌, List, length, sym, ap, ◌∙◌, subst}
 use Rattle.network.specs.declared.line.Line.{Line}
 use Rattle.network.specs.declared.site.Site.{Site}
 use Rattle.netfile.specs.Meaning.{sites_in, lines_in}

@@ -1,4 +1,4 @@
-use Rattle.std.proofs.Common.{◌≡◌, ◌<◌, length, sym, arith}
+use Rattle.std.proofs.Common.{◌<◌, length, sym, arith}
 use Rattle.netfile.specs.Search.{stands_at}
 use Rattle.netfile.proofs.Lowest.{lowest_is}
 use Rattle.netfile.proofs.file.place_in.Goals as goal

@@ -1,4 +1,4 @@
-use Rattle.std.proofs.Common.{◌≡◌, ◌<◌, true, false, sym, arith, rules}
+use Rattle.std.proofs.Common.{◌≡◌, ◌<◌, true, sym, rules}
 use Rattle.netfile.specs.Layout.{line_count}
 use Rattle.netfile.specs.Meaning.{wrong_ends}
 use Rattle.netfile.proofs.Ends.{ends_none, ends_first}

@@ -1,4 +1,4 @@
-use Rattle.std.proofs.Common.{◌≡◌, sym, ◌∙◌, arith}
+use Rattle.std.proofs.Common.{sym, ◌∙◌, arith}
 use Rattle.netfile.specs.Search.{falls_at}
 use Rattle.netfile.proofs.Lowest.{lowest_none, lowest_first}
 use Rattle.netfile.proofs.numbered.first_not_rising.Goals as goal

@@ -1,4 +1,4 @@
-use Rattle.std.proofs.Common.{◌≡◌, ◌+◌, ◌*◌, ◌^◌, ◌<◌, sym, arith}
+use Rattle.std.proofs.Common.{◌+◌, ◌*◌, ◌^◌, ◌<◌, sym, arith}
 use Rattle.netfile.proofs.Rising.{fall_fits}
 use Rattle.netfile.proofs.record_checks.check_order.Goals as goal
 

@@ -1,4 +1,4 @@
-use Rattle.std.proofs.Common.{◌≡◌, ℕ, length, vec_items, vec_len, sym, refl, ◌∙◌, subst, arith, rules}
+use Rattle.std.proofs.Common.{ℕ, length, vec_items, ◌∙◌, subst, arith}
 use Rattle.network.specs.Lines.{AllJoin}
 use Rattle.book.proofs.Asking.{planned, not_refused}
 use Rattle.book.proofs.held.Book.choose.Goals as goal

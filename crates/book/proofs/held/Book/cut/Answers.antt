@@ -1,4 +1,4 @@
-use Rattle.std.proofs.Common.{◌≡◌, None, sym, ◌∙◌, arith}
+use Rattle.std.proofs.Common.{None, sym, ◌∙◌, arith}
 use Rattle.network.proofs.Digits.{size_ones}
 use Rattle.book.proofs.Preparing.{sites_pass, level_there, side_there}
 use Rattle.book.proofs.held.Book.cut.Goals as goal

@@ -1,10 +1,9 @@
-use Rattle.std.proofs.Common.{◌≡◌, ℕ, ◌+◌, ◌<◌, ◌≤◌, true, List, [], length, None, vec_items, vec_len, vec_capacity, sym, refl, ap, ◌∙◌, subst, subst₂, arith, rules}
-use Rattle.std.proofs.lemmas.Bool.{eq-eqb}
+use Rattle.std.proofs.Common.{◌≡◌, ℕ, ◌<◌, List, length, vec_items, vec_len, sym, refl, ap, ◌∙◌, subst₂, arith}
 use Rattle.network.specs.declared.line.Line.{Line}
 use Rattle.network.specs.declared.line.LineState.TheVariants.{Free}
 use Rattle.network.specs.Lines.{AllJoin, line_at}
-use Rattle.netfile.specs.Meaning.{first_fault, sites_in, lines_in}
-use Rattle.book.specs.Tables.{total_held, sound}
+use Rattle.netfile.specs.Meaning.{sites_in, lines_in}
+use Rattle.book.specs.Tables.{total_held}
 use Rattle.book.proofs.Places.{tells_moved}
 use Rattle.book.proofs.Files.{file_facts}
 use Rattle.book.proofs.Fresh.{empty_book, all_free, none_owned}

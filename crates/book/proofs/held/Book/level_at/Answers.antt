@@ -1,4 +1,4 @@
-use Rattle.std.proofs.Common.{◌≡◌, ℕ, vec_items, vec_len, ap, ◌∙◌, arith}
+use Rattle.std.proofs.Common.{ℕ, vec_items, vec_len, ap, ◌∙◌, arith}
 use mathlib.Core.Logic.{∥∥₁_elim}
 use native.Mathlib.Nat.{ℕ_set}
 use Rattle.network.specs.Cuts.{level_of}

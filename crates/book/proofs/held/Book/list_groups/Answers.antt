@@ -1,7 +1,7 @@
-use Rattle.std.proofs.Common.{◌≡◌, ℕ, ◌<◌, ◌≤◌, false, eqb, ltb, List, ◌++◌, map, length, get_or, take, drop, vec_items, vec_len, sym, refl, ap, ◌∙◌, subst, arith, rules}
+use Rattle.std.proofs.Common.{◌≡◌, ℕ, false, eqb, ltb, List, length, get_or, vec_items, vec_len, refl, subst, arith}
 use Rattle.std.proofs.lemmas.Bool.{ne_eqb, le-ltb, or_from}
 use Rattle.network.specs.declared.site.Site.{Site}
-use Rattle.network.specs.Groups.{group_list, group_count}
+use Rattle.network.specs.Groups.{group_list}
 use Rattle.book.specs.Calls.{site_number, k_out}
 use Rattle.book.proofs.Grouping.{Grouped, grouped, entry_within}
 use Rattle.book.proofs.Laying.{named}

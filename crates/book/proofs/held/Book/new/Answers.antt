@@ -1,4 +1,4 @@
-use Rattle.std.proofs.Common.{◌≡◌, sym, ◌∙◌, arith, rules}
+use Rattle.std.proofs.Common.{sym, ◌∙◌, arith, rules}
 use Rattle.network.specs.Groups.{tally}
 use Rattle.book.specs.Tables.{total_shown, total_held, sound}
 use Rattle.book.proofs.held.Book.new.Goals as goal

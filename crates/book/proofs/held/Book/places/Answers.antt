@@ -1,4 +1,4 @@
-use Rattle.std.proofs.Common.{◌≡◌, ℕ, List, Some, vec_items, vec_len, sym, ap, ◌∙◌, arith, rules}
+use Rattle.std.proofs.Common.{◌≡◌, List, Some, vec_items, sym, ap, ◌∙◌, arith}
 use Rattle.network.specs.declared.site.Site.{Site}
 use Rattle.book.specs.Calls.{place_in}
 use Rattle.book.proofs.Places.{place_within, places_apart}

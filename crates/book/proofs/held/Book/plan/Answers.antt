@@ -1,5 +1,5 @@
-use Rattle.std.proofs.Common.{◌≡◌, false, eqb, ltb, leb, sym, ◌∙◌, arith, rules}
-use Rattle.std.proofs.lemmas.Bool.{lt-leb, ne_eqb, le-ltb, or_from}
+use Rattle.std.proofs.Common.{◌≡◌, false, eqb, ltb, arith}
+use Rattle.std.proofs.lemmas.Bool.{ne_eqb, le-ltb, or_from}
 use Rattle.book.specs.Calls.{k_out}
 use Rattle.book.proofs.Preparing.{prepared}
 use Rattle.book.proofs.held.Book.plan.Goals as goal

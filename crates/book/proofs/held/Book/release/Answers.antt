@@ -1,8 +1,6 @@
-use Rattle.std.proofs.Common.{◌≡◌, ℕ, ◌+◌, ◌<◌, ◌≤◌, List, length, vec_items, vec_len, vec_capacity, sym, refl, ap, ◌∙◌, subst, inl, inr, arith, rules}
+use Rattle.std.proofs.Common.{◌≡◌, ℕ, ◌<◌, length, vec_items, vec_len, sym, ap, ◌∙◌, inl, inr, arith, rules}
 use Rattle.std.proofs.lemmas.Bool.{cases_eq}
-use Rattle.book.specs.declared.standing.Standing.{Standing}
 use Rattle.book.specs.Tables.{total_shown, total_held, without, owned}
-use Rattle.book.specs.Listings.{Found}
 use Rattle.book.proofs.Places.{tells_moved}
 use Rattle.book.proofs.Rows.{sound_without, sound_own, shown_without, held_without}
 use Rattle.book.proofs.Marks.{free_back, owned_rest, owned_gone}

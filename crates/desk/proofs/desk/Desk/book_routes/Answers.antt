@@ -1,6 +1,6 @@
-use Rattle.std.proofs.Common.{vec_items, arith}
+use Rattle.std.proofs.Common.{arith}
 use Rattle.desk.specs.Desks.{passes_of}
-use Rattle.desk.proofs.Keeping.{Kept, kept_of, room_left, kept_push}
+use Rattle.desk.proofs.Keeping.{kept_of, room_left, kept_push}
 use Rattle.desk.proofs.desk.Desk.book_routes.Goals as goal
 
 pub keep-requires : goal.keep-requires

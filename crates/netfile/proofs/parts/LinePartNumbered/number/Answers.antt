@@ -1,4 +1,4 @@
-use Rattle.std.proofs.Common.{◌≡◌, sym, ap, ◌∙◌, arith}
+use Rattle.std.proofs.Common.{sym, ap, ◌∙◌, arith}
 use Rattle.netfile.specs.declared.parts.LineRecord.{LineRecord}
 use Rattle.netfile.proofs.Numbers.{get_or_numbers, past_numbers}
 use Rattle.netfile.proofs.parts.LinePartNumbered.number.Goals as goal

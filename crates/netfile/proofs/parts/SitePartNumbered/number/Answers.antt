@@ -1,4 +1,4 @@
-use Rattle.std.proofs.Common.{◌≡◌, sym, ap, ◌∙◌, arith}
+use Rattle.std.proofs.Common.{sym, ap, ◌∙◌, arith}
 use Rattle.network.specs.declared.site.Site.{Site}
 use Rattle.netfile.proofs.Numbers.{get_or_numbers, past_numbers}
 use Rattle.netfile.proofs.parts.SitePartNumbered.number.Goals as goal
