@@ -9,7 +9,7 @@ ghost use Rattle.cases.specs.Ledgers.{at_first, Going, Holding, Returned};
 ghost use Rattle.cases.specs.Outcomes.{few_of, FourDenied, Happened};
 
 use crate::outcome::Outcome;
-use book::{Book, Denied, Fault, Ticket};
+use book::{Book, Fault, Ticket};
 use network::Engine;
 use std::alloc::{AllocError, Global};
 
@@ -71,7 +71,8 @@ fn with_three<E: Engine>(book: &mut Book<E>, ticket: Ticket) -> Outcome
             released: true,
             four_denied: once_returned(book),
         },
-        Err(denied) => lost(denied),
+        // A denial that cannot be.
+        Err(_denied) => unreachable!(),
     }
 }
 
@@ -80,7 +81,8 @@ fn once_returned<E: Engine>(book: &mut Book<E>) -> Option<(usize, u64)>
     ensures { FourDenied result }
 {
     match want_four(book) {
-        Ok(ticket) => never_given(ticket),
+        // A ticket that cannot be.
+        Ok(_ticket) => unreachable!(),
         Err(fault) => few(fault),
     }
 }
@@ -107,23 +109,4 @@ fn few(fault: Fault) -> Option<(usize, u64)>
         Fault::TooFewRoutes(level, side) => Some((level, side)),
         _ => None,
     }
-}
-
-// A denial that cannot be.
-fn lost(denied: Denied) -> Outcome
-    requires { ⊥ }
-{
-    let Denied {
-        fault: _,
-        ticket: _lost,
-    } = denied;
-    nothing()
-}
-
-// A ticket that cannot be.
-fn never_given(ticket: Ticket) -> Option<(usize, u64)>
-    requires { ⊥ }
-{
-    let _lost = ticket;
-    None
 }

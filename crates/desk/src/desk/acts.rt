@@ -9,7 +9,7 @@ ghost use Rattle.desk.specs.Desks.{Took, EndedAt, Ended, EndedNext};
 use super::Desk;
 use crate::pass::Pass;
 use crate::passes::{find_pass, keep, pass_at, room_for_all};
-use book::{Book, Denied, Fault};
+use book::{Book, Fault};
 use network::Engine;
 use std::alloc::{AllocError, Global};
 
@@ -101,18 +101,9 @@ impl<E: Engine> Desk<E> {
         let number = ticket.number();
         match self.book.release(ticket) {
             Ok(()) => {}
-            Err(denied) => lost(denied),
+            // It is accepted, so this arm cannot be.
+            Err(_denied) => unreachable!(),
         }
         number
     }
-}
-
-// Stands where a release of the desk is denied, which cannot be.
-fn lost(denied: Denied)
-    requires { ⊥ }
-{
-    let Denied {
-        fault: _,
-        ticket: _lost,
-    } = denied;
 }

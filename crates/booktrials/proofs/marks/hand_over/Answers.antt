@@ -14,10 +14,10 @@ handed_back b after last x y k t t' d n e r =
     (rw (e, n.ticket_number, n.rows) (stands_last (record { number = b.count + 1; held = _; length = _ }) (rows_of b)))
     r
 
-pub lost-requires : goal.lost-requires
-lost-requires g c =
+pub unreachable-requires : goal.unreachable-requires
+unreachable-requires g c =
     handed_back c.args.own.now c.book.new.self c.release-in-Err.new.self 10 20 3 c.in_ok-ticket.ticket c.in-Err.denied.ticket
-    c.in-Err-release.denied
+    c.in-Err-release._denied
     c.in_ok-ticket.ensures.booked.1
     c.in-Err.ensures.1
     c.in-Err-release.ensures

@@ -6,15 +6,11 @@ use Rattle.cases.proofs.calls.with_three.Goals as goal
 pub once_returned-requires : goal.once_returned-requires
 once_returned-requires g c = three_returned c.args.book.now c.release.new.self c.args.ticket c.requires c.in-Ok.ensures
 
-pub lost-requires : goal.lost-requires
-lost-requires g c =
+pub unreachable-requires : goal.unreachable-requires
+unreachable-requires g c =
     never (ticket_check c.args.book.now c.args.ticket None) (release_passes c.args.book.now c.args.ticket c.requires) c.in-Err.ensures.0
 
-pub returns-in-Ok : goal.returns-in-Ok
-returns-in-Ok g c =
+pub returns : goal.returns
+returns g c =
     let l = groups_then c.args.book.now c.args.ticket (0 ∷ 0 ∷ 0 ∷ 0 ∷ []) c.groups.new.list c.groups.result c.requires refl c.groups.ensures.lawful in
     record { opened = refl; three_booked = refl; listed = c.is_ok-listed.ensures.value ∙ l.0; entries = l.1; released = refl; four_denied = c.once_returned.ensures }
-
-pub returns-in-Err : goal.returns-in-Err
-returns-in-Err g c = absurd
-    (never (ticket_check c.args.book.now c.args.ticket None) (release_passes c.args.book.now c.args.ticket c.requires) c.in-Err.ensures.0)

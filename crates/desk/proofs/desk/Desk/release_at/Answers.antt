@@ -12,14 +12,14 @@ invariant_of-self g c =
     (kept_of d) (inside d c.args.place c.requires) q a.1 c.remove.ensures.items in
     record { room = omega (arith, d.room, c.remove.ensures.capacity); marked = h.marked; standing = h.standing; apart = h.apart }
 
-pub lost-requires : goal.lost-requires
-lost-requires g c =
+pub unreachable-requires : goal.unreachable-requires
+unreachable-requires g c =
     let d = c.args.self.now in
     let q = good_of d c.args.place c.remove.result c.requires c.remove.ensures.value in
-    absurd (never_denied d.book c.remove.result.ticket c.release.new.self c.in-Err.denied q.mark q.stands_there c.in-Err.ensures)
+    absurd (never_denied d.book c.remove.result.ticket c.release.new.self c.in-Err._denied q.mark q.stands_there c.in-Err.ensures)
 
-pub returns-in-Ok : goal.returns-in-Ok
-returns-in-Ok g c =
+pub returns : goal.returns
+returns g c =
     let d = c.args.self.now in
     let q = good_of d c.args.place c.remove.result c.requires c.remove.ensures.value in
     record {
@@ -30,9 +30,3 @@ returns-in-Ok g c =
       released = accepted d.book c.remove.result.ticket c.release.new.self c.release.result q.mark q.stands_there c.release.ensures;
       passes = c.remove.ensures.items;
     }
-
-pub returns-in-Err : goal.returns-in-Err
-returns-in-Err g c =
-    let d = c.args.self.now in
-    let q = good_of d c.args.place c.remove.result c.requires c.remove.ensures.value in
-    absurd (never_denied d.book c.remove.result.ticket c.release.new.self c.in-Err.denied q.mark q.stands_there c.in-Err.ensures)
