@@ -3,7 +3,7 @@ ghost use Rattle.std.specs.Prelude.{◌≡◌};
 use crate::fault::Fault;
 
 /// The right to a booking. Only a booking makes one, none is copied, and it is spent by its release alone: a program
-/// that lets one go is refused, since the type has no drop.
+/// with no `unsafe` that lets one go is refused, since the type has no drop.
 pub struct Ticket {
     pub(crate) mark: u32,
     pub(crate) number: u16,
