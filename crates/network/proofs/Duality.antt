@@ -1,13 +1,15 @@
 -- Marks that carry v from a to b: no set of places that parts the two is crossed by fewer than v free lines, so that
 -- the value that an engine answers is the level.
-use Rattle.std.proofs.Common.{◌≡◌, ℕ, ◌+◌, ◌<◌, ◌≤◌, Bool, true, false, cond, not, ◌≢◌, List, sym, ap, inl, inr, arith}
+use Rattle.std.proofs.Common.{◌≡◌, ℕ, ◌+◌, ◌<◌, ◌≤◌, Bool, true, false, cond, not, ◌≢◌, List, IfSome, Option, Some, None, refl, sym, ap, inl, inr, arith}
 use Rattle.std.proofs.lemmas.Bool.{cases_Bool}
 use Rattle.std.proofs.lemmas.Bool.Decides.{nat_tests}
 use Rattle.network.specs.declared.line.Line.{Line}
+use Rattle.network.specs.declared.engine.Flow.{Flow}
+use Rattle.network.specs.declared.engine.SiteWork.{SiteWork}
 use Rattle.network.specs.Lines.{line_at, Joins, AllJoin}
 use Rattle.network.specs.Cuts.{crosses, crossing_by, level_of}
 use Rattle.network.specs.Flow.{mark_at, one, leaves, arrives, outs, ins, Marked}
-use Rattle.network.specs.Answers.{PartedBy, Carries}
+use Rattle.network.specs.Answers.{PartedBy, Carries, Answer}
 use Rattle.network.specs.Laws.{ValueIsLevel}
 use Rattle.network.proofs.Crossing.{crossing_not}
 use Rattle.network.proofs.Ties.{Tied, differ_yes, differ_no, differ_parts}
@@ -50,7 +52,14 @@ level_is n ls ms a b v s joins c la lb ne p =
     let e = p.crossed in
     omega arith
 
+-- .. as it is where an engine answers
+pub level_answered : (n : ℕ) (ls : List Line) (a b : ℕ) (ms ms' : List ℕ) (ws ws' : List SiteWork) (r : Option Flow) →
+    Answer n ls a b ms ms' ws ws' r → IfSome r (λ f. f.value ≡ level_of n ls a b)
+level_answered n ls a b ms ms' ws ws' None ans = tt
+level_answered n ls a b ms ms' ws ws' (Some f) ans =
+    let t = ans.0 in
+    sym (level_is n ls ms' a b f.value f.side t.joined ans.1.carried t.a_within t.b_within t.apart ans.1.parted)
+
 pub value_is_level : ValueIsLevel
-value_is_level n ls a b ms ms' ws ws' r ans t =
-    let f = ans.answers t in
-    sym (level_is n ls ms' a b r.0 r.1 t.joined f.carried t.a_within t.b_within t.apart f.parted)
+value_is_level n ls a b ms ms' ws ws' None ans t = absurd (ans.0 t)
+value_is_level n ls a b ms ms' ws ws' (Some f) ans t = (f, refl, level_answered n ls a b ms ms' ws ws' (Some f) ans)

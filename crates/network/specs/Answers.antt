@@ -1,6 +1,7 @@
 -- What an engine means.
-use Rattle.std.specs.Prelude.{◌≡◌, ℕ, ◌^◌, ◌<◌, ◌≤◌, true, false, List, length, drop}
+use Rattle.std.specs.Prelude.{◌≡◌, ℕ, ◌^◌, ◌<◌, ◌≤◌, true, false, List, length, drop, Some, None, Option}
 use Rattle.network.specs.declared.line.Line.{Line}
+use Rattle.network.specs.declared.engine.Flow.{Flow}
 use Rattle.network.specs.declared.engine.SiteWork.{SiteWork}
 use Rattle.network.specs.Lines.{AllJoin}
 use Rattle.network.specs.Sides.{member}
@@ -37,8 +38,8 @@ pub record Flows (n : ℕ) (ls : List Line) (a b : ℕ) (ms ms' : List ℕ) (v s
   pub carried : Carries ls ms' a b v
   pub rest : drop (length ls) ms' ≡ drop (length ls) ms
 
--- what an engine answers to any call; where it declines, the value is 0, the side is empty, and the marks and the
--- work table are as they were
-pub record Answer (n : ℕ) (ls : List Line) (a b : ℕ) (ms ms' : List ℕ) (ws ws' : List SiteWork) (r : ℕ × ℕ) : Type 0 where
-  pub answers : Task n ls a b ms ws → Flows n ls a b ms ms' r.0 r.1
-  pub declines : (Task n ls a b ms ws → ⊥) → (r ≡ (0, 0)) × (ms' ≡ ms) × (ws' ≡ ws)
+-- what an engine answers to any call: a flow where it takes the call; where it declines, the marks and the work table
+-- are as they were
+abbrev pub Answer : ℕ → List Line → ℕ → ℕ → List ℕ → List ℕ → List SiteWork → List SiteWork → Option Flow → Type 0
+Answer n ls a b ms ms' ws ws' (Some f) = Task n ls a b ms ws × Flows n ls a b ms ms' f.value f.side
+Answer n ls a b ms ms' ws ws' None = (Task n ls a b ms ws → ⊥) × (ms' ≡ ms) × (ws' ≡ ws)

@@ -1,6 +1,7 @@
 -- What is proved of the words of the network.
-use Rattle.std.specs.Prelude.{◌≡◌, ℕ, ◌+◌, ◌^◌, ◌<◌, ◌≤◌, min, true, false, ◌≢◌, ◌↔◌, List, map, length, bit_and, bit_or, nat_lt, slice_index}
+use Rattle.std.specs.Prelude.{◌≡◌, ℕ, ◌+◌, ◌^◌, ◌<◌, ◌≤◌, min, true, false, ◌≢◌, ◌↔◌, List, map, length, Some, Option, bit_and, bit_or, nat_lt, slice_index}
 use Rattle.network.specs.declared.line.Line.{Line}
+use Rattle.network.specs.declared.engine.Flow.{Flow}
 use Rattle.network.specs.declared.engine.SiteWork.{SiteWork}
 use Rattle.network.specs.Lines.{AllJoin}
 use Rattle.network.specs.Sides.{member, differ}
@@ -43,10 +44,10 @@ Withstood = (n : ℕ) (ls : List Line) (k x y : ℕ) → AllJoin n ls → x < n 
 abbrev pub Routed : Type 0
 Routed = (n : ℕ) (ls : List Line) (k x y : ℕ) (rs : List (List ℕ)) → AllJoin n ls → x < n → y < n → x ≢ y → FreeRoutes ls x y k rs → k ≤ level_of n ls x y
 
--- the value that an engine answers is the level
+-- an engine answers a call that it takes with a flow, and the value of it is the level
 abbrev pub ValueIsLevel : Type 0
-ValueIsLevel = (n : ℕ) (ls : List Line) (a b : ℕ) (ms ms' : List ℕ) (ws ws' : List SiteWork) (r : ℕ × ℕ) →
-    Answer n ls a b ms ms' ws ws' r → Task n ls a b ms ws → r.0 ≡ level_of n ls a b
+ValueIsLevel = (n : ℕ) (ls : List Line) (a b : ℕ) (ms ms' : List ℕ) (ws ws' : List SiteWork) (r : Option Flow) →
+    Answer n ls a b ms ms' ws ws' r → Task n ls a b ms ws → (f : Flow) × (r ≡ Some f) × (f.value ≡ level_of n ls a b)
 
 -- routes are read back as they were written, where no two lines have one number
 abbrev pub ReadBack : Type 0

@@ -41,10 +41,5 @@ impl Line {
 pub fn all_join(sites: usize, lines: &[Line]) -> bool
     ensures { Decides result (AllJoin sites lines.now) }
 {
-    for p in 0..lines.len() {
-        if !lines[p].joins(sites) {
-            return false;
-        }
-    }
-    true
+    lines.iter().all(|line| line.joins(sites))
 }
