@@ -1,11 +1,11 @@
 -- The binary digits of a side: how many are set, which is the lowest, and when two sides are one.
-use Rattle.std.proofs.Common.{◌≡◌, ℕ, zero, suc, ◌+◌, ◌-◌, ◌/◌, ◌%◌, ◌^◌, ◌<◌, ◌≤◌, Bool, true, false, cond, not, ◌&&◌, ◌||◌, eqb, ltb, sym, refl, ap, ◌∙◌, subst, inl, inr, mod-eq_of_lt, arith, pow_pos}
-use lib.Bits.{bit_and, bit_or, bit_xor, and_comm, and_mask, xor_add_and}
+use Rattle.std.proofs.Common.{◌≡◌, ℕ, zero, suc, ◌+◌, ◌-◌, ◌/◌, ◌%◌, ◌^◌, ◌<◌, Bool, true, false, cond, not, ◌&&◌, eqb, ltb, sym, refl, ap, ◌∙◌, subst, inl, inr, mod-eq_of_lt, arith, pow_pos}
+use lib.Bits.{bit_and, bit_xor, and_comm, and_mask, xor_add_and}
 use lib.Count.{ones, ones_step, count_trailing_zeros, under}
-use Rattle.std.proofs.lemmas.Bool.{cases_eq, cases_lt, ne_eqb, lt-ltb, le-ltb}
+use Rattle.std.proofs.lemmas.Bool.{cases_lt, lt-ltb, le-ltb}
 use Rattle.std.proofs.lemmas.Bool.Decides.{nat_tests}
 use Rattle.network.specs.Sides.{member, differ, size_below}
-use Rattle.network.proofs.Members.{member_zero, member_suc, member_and, member_or, member_xor, member_one, member_ones, member_past}
+use Rattle.network.proofs.Members.{member_zero, member_suc, member_and, member_xor, member_one, member_ones, member_past}
 
 low_digit : (s : ℕ) → cond (eqb (s % 2) 1) 1 0 ≡ s % 2
 low_digit s = grind (arith, nat_tests)
@@ -46,10 +46,10 @@ lowest_trailing zero s p h = absurd (omega arith)
 lowest_trailing (suc n) s p h =
     lowest_at s (s % 2) (count_trailing_zeros n (s / 2)) refl (λ e. lowest_trailing n (s / 2) (omega arith) (omega arith))
 
--- one place more
-pub member_insert : (s j i : ℕ) → j < 64 → member (bit_or s (2 ^ j)) i ≡ (member s i || (eqb i j && ltb i 64))
-member_insert s j i h =
-    member_or s (2 ^ j) i ∙ ap (λ t. member s i || t) (member_one j i ∙ within)
+-- the side of one place
+pub member_alone : (j i : ℕ) → j < 64 → member (2 ^ j) i ≡ (eqb i j && ltb i 64)
+member_alone j i h =
+    member_one j i ∙ within
   where
     within : eqb i j ≡ (eqb i j && ltb i 64)
     within = grind (arith, nat_tests)
@@ -80,13 +80,9 @@ member_without a b i h g =
     within = elim (cases_lt i 64) [ inl l ↦ rw (lt-ltb i 64 l) | inr l ↦ rw (member_past a 64 i h l) ]
 
 -- a side has no place from 64 on, so that none is taken out there
-pub member_same : (s j i : ℕ) → s < 2 ^ 64 → 64 ≤ j → member s i ≡ (member s i && not (eqb i j))
-member_same s j i h l =
-    elim (cases_eq i j) [
-      | inl e ↦ rw (e, member_past s 64 j h l)
-      | inr e ↦ rw (ne_eqb i j e) (always (member s i))
-    ]
+pub without_alone : (s j i : ℕ) → s < 2 ^ 64 → (member s i && not (eqb i j && ltb i 64)) ≡ (member s i && not (eqb i j))
+without_alone s j i h = elim (cases_lt i 64) [ inl l ↦ rw (lt-ltb i 64 l, always (eqb i j)) | inr l ↦ rw (member_past s 64 i h l) ]
   where
-    always : (t : Bool) → t ≡ (t && true)
+    always : (t : Bool) → (t && true) ≡ t
     always true = refl
     always false = refl

@@ -17,20 +17,22 @@ pub fn insert(side: u64, place: usize) -> u64
     ensures places { (i : ℕ) → member result i ≡ (member side i || (i == place && nat_lt i 64)) }
     ensures within { (n : ℕ) → side < 2 ^ n → place < n → result < 2 ^ n }
 {
-    if place >= 64 {
-        return side;
-    }
-    digits::either(side, digits::single(place))
+    digits::either(side, alone(place))
 }
 
 /// The side without the place.
 pub fn remove(side: u64, place: usize) -> u64
     ensures { (i : ℕ) → member result i ≡ (member side i && not (i == place)) }
 {
-    if place >= 64 {
-        return side;
-    }
-    digits::without(side, digits::single(place))
+    digits::without(side, alone(place))
+}
+
+// The side of one place; a place from 64 on is in no side.
+fn alone(place: usize) -> u64
+    ensures places { (i : ℕ) → member result i ≡ (i == place && nat_lt i 64) }
+    ensures within { (n : ℕ) → place < n → result < 2 ^ n }
+{
+    if place < 64 { digits::single(place) } else { 0 }
 }
 
 /// The places of either side.

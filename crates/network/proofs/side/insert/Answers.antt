@@ -1,11 +1,11 @@
 use lib.Bits.{or_lt}
-use lib.Pow.{pow-lt}
-use Rattle.std.proofs.Common.{◌^◌, arith}
-use Rattle.network.proofs.Digits.{member_insert}
+use Rattle.std.proofs.Common.{◌||◌, ap, ◌∙◌}
+use Rattle.network.specs.Sides.{member}
+use Rattle.network.proofs.Members.{member_or}
 use Rattle.network.proofs.side.insert.Goals as goal
 
 pub returns : goal.returns
-returns c = simp (c.either.ensures, c.single.ensures) (record {
-  places = λ i. member_insert c.args.side c.args.place i (omega arith);
-  within = λ n s p. or_lt n c.args.side (2 ^ c.args.place) s (pow-lt p);
+returns c = simp (c.either.ensures) (record {
+  places = λ i. member_or c.args.side c.alone.result i ∙ ap (λ t. member c.args.side i || t) (c.alone.ensures.places i);
+  within = λ n s p. or_lt n c.args.side c.alone.result s (c.alone.ensures.within n p);
 })
