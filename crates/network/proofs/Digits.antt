@@ -1,5 +1,5 @@
 -- The binary digits of a side: how many are set, which is the lowest, and when two sides are one.
-use Rattle.std.proofs.Common.{◌≡◌, ℕ, zero, suc, ◌+◌, ◌-◌, ◌/◌, ◌%◌, ◌^◌, ◌<◌, Bool, true, false, cond, not, ◌&&◌, eqb, ltb, sym, refl, ap, ◌∙◌, subst, inl, inr, mod-eq_of_lt, arith, pow_pos}
+use Rattle.std.proofs.Common.{◌≡◌, ℕ, zero, suc, ◌+◌, ◌-◌, ◌/◌, ◌%◌, ◌^◌, ◌<◌, Bool, true, false, cond, not, ◌&&◌, eqb, ltb, sym, refl, ap, ◌∙◌, subst, inl, inr, mod-eq_of_lt, arith}
 use lib.Bits.{bit_and, bit_xor, and_comm, and_mask, xor_add_and}
 use lib.Count.{ones, ones_step, count_trailing_zeros, under}
 use Rattle.std.proofs.lemmas.Bool.{cases_lt, lt-ltb, le-ltb}
@@ -57,9 +57,6 @@ member_alone j i h =
 -- the side of all places below n
 pub ones_places : (n r : ℕ) → r ≡ 2 ^ n - 1 → (i : ℕ) → member r i ≡ ltb i n
 ones_places n r e i = ap (λ x. member x i) e ∙ member_ones n i
-
-pub ones_within : (n r : ℕ) → r ≡ 2 ^ n - 1 → r < 2 ^ n
-ones_within n r e = omega (arith, pow_pos n)
 
 -- the places below n that a side lacks
 pub member_not : (n s i : ℕ) → s < 2 ^ n → member (2 ^ n - 1 - s) i ≡ (ltb i n && not (member s i))

@@ -23,17 +23,16 @@ impl Line {
     pub fn is_free(&self) -> bool
         ensures { result ≡ is_free self.now.state }
     {
-        match self.state {
-            LineState::Free => true,
-            LineState::Held(_) => false,
-        }
+        matches!(self.state, LineState::Free)
     }
 
     /// Whether the line joins two different places of a network of so many sites.
     pub fn joins(&self, sites: usize) -> bool
         ensures { Decides result (Joins sites self.now) }
     {
-        (self.first as usize) < sites && (self.second as usize) < sites && self.first != self.second
+        usize::from(self.first) < sites
+            && usize::from(self.second) < sites
+            && self.first != self.second
     }
 }
 
