@@ -9,8 +9,9 @@ mod network_checks;
 mod numbered;
 mod parts;
 mod record_checks;
+mod records;
 
 pub use faults::{FileFault, Layer, NetworkFault, RecordFault};
 pub use file::NetworkFile;
 pub use laws::meaning_laws;
-pub use numbered::{Numbered, find, first_not_rising};
+pub use numbered::{HasNumber, Numbered, find, first_not_rising};

@@ -1,5 +1,7 @@
-ghost use Rattle.std.specs.Prelude.{◌≡◌, ℕ, List, length, slice_index};
+ghost use Rattle.std.specs.Prelude.{◌≡◌, ℕ, List, map, length, slice_index};
 ghost use Rattle.netfile.specs.Search.{position_of, falls_at, first_fall};
+
+use network::Site;
 
 /// Records that have a number each, by position.
 pub trait Numbered {
@@ -13,28 +15,47 @@ pub trait Numbered {
         ensures { result ≡ slice_index (numbers self.now) i };
 }
 
+/// A record that has a number.
+pub trait HasNumber {
+    ghost number_of: { Self → ℕ };
+
+    fn number(&self) -> u16
+        ensures { result ≡ number_of self.now };
+}
+
+impl HasNumber for Site {
+    ghost number_of = { λ s. s.number };
+
+    fn number(&self) -> u16 {
+        self.number
+    }
+}
+
+/// A table of such records, in its order.
+impl<R: HasNumber> Numbered for Vec<R> {
+    ghost numbers = { λ v. map R.number_of v.items };
+
+    fn count(&self) -> usize {
+        self.len()
+    }
+
+    fn number(&self, i: usize) -> u16 {
+        self.get(i).map_or(0, |record| record.number())
+    }
+}
+
 /// The first position at which a number stands.
 pub fn find<T: Numbered>(records: &T, number: u16) -> Option<usize>
     ensures { result ≡ position_of (T.numbers records.now) number }
 {
-    for position in 0..records.count() {
-        if records.number(position) == number {
-            return Some(position);
-        }
-    }
-    None
+    (0..records.count()).find(|i| records.number(*i) == number)
 }
 
 /// The first position whose number is not above the one before it.
 pub fn first_not_rising<T: Numbered>(records: &T) -> Option<usize>
     ensures { result ≡ first_fall (T.numbers records.now) }
 {
-    for i in 0..records.count() {
-        if falls(records, i) {
-            return Some(i);
-        }
-    }
-    None
+    (0..records.count()).find(|i| falls(records, *i))
 }
 
 /// Whether the number at a position is not above the one before it. The first record has none before it, so its number
