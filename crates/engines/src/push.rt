@@ -7,7 +7,7 @@ ghost use Rattle.engines.specs.Heights.{height_at, surplus_at, moved, raised, Se
 use crate::residual::{can_push, clear_marks, head_of, push_unit, tail_of};
 use crate::search::{search, side_seen};
 use crate::task::{Method, answer};
-use network::{Engine, Line, SiteWork};
+use network::{Engine, Flow, Line, Network, SiteWork};
 
 // Takes one unit of surplus from p to q.
 fn move_surplus(work: &mut [SiteWork], p: usize, q: usize)
@@ -219,21 +219,18 @@ pub struct Push {}
 
 impl Method for Push {
     // Sends from a all that its lines take, and moves the surplus on until it has come to b or is back at a.
-    fn run(
-        lines: &[Line],
-        a: usize,
-        b: usize,
-        marks: &mut [u8],
-        work: &mut [SiteWork],
-    ) -> (usize, u64) {
+    fn run(net: &Network<'_>, a: usize, b: usize, marks: &mut [u8], work: &mut [SiteWork]) -> Flow {
         clear_marks(marks);
-        prepare(work, a, lines.len() as u16);
-        saturate(lines, marks, work, a);
-        drain(lines, marks, work, a, b);
+        prepare(work, a, net.lines.len() as u16);
+        saturate(net.lines, marks, work, a);
+        drain(net.lines, marks, work, a, b);
         let value = work[b].surplus as usize;
         // Some height between b's and a's has no place, and no arc leads down past it: the search never reaches b.
-        let _ = search(lines, marks, work, a, b);
-        (value, side_seen(work))
+        let _ = search(net.lines, marks, work, a, b);
+        Flow {
+            value,
+            side: side_seen(work),
+        }
     }
 }
 
@@ -245,7 +242,7 @@ impl Engine for Push {
         b: usize,
         marks: &mut [u8],
         work: &mut [SiteWork],
-    ) -> (usize, u64) {
+    ) -> Option<Flow> {
         answer::<Push>(sites, lines, a, b, marks, work)
     }
 }

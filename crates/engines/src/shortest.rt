@@ -9,7 +9,7 @@ ghost use Rattle.engines.specs.Search.{parent_at, way_in, Found};
 use crate::residual::{clear_marks, push_unit, tail_of};
 use crate::search::{search, side_seen};
 use crate::task::{Method, answer};
-use network::{Engine, Line, SiteWork};
+use network::{Engine, Flow, Line, Network, SiteWork};
 
 // Sends one unit to c over the line by which c was seen, and answers the place that this line comes from.
 fn step_back(lines: &[Line], marks: &mut [u8], work: &[SiteWork], c: usize) -> usize
@@ -46,20 +46,17 @@ pub struct ShortestRoute {}
 
 impl Method for ShortestRoute {
     // Sends units from a to b, one at a time, until no further route is left.
-    fn run(
-        lines: &[Line],
-        a: usize,
-        b: usize,
-        marks: &mut [u8],
-        work: &mut [SiteWork],
-    ) -> (usize, u64) {
+    fn run(net: &Network<'_>, a: usize, b: usize, marks: &mut [u8], work: &mut [SiteWork]) -> Flow {
         clear_marks(marks);
         let mut value = 0;
-        'units: while search(lines, marks, work, a, b) {
-            augment(lines, marks, work, a, b);
+        'units: while search(net.lines, marks, work, a, b) {
+            augment(net.lines, marks, work, a, b);
             value += 1;
         }
-        (value, side_seen(work))
+        Flow {
+            value,
+            side: side_seen(work),
+        }
     }
 }
 
@@ -71,7 +68,7 @@ impl Engine for ShortestRoute {
         b: usize,
         marks: &mut [u8],
         work: &mut [SiteWork],
-    ) -> (usize, u64) {
+    ) -> Option<Flow> {
         answer::<ShortestRoute>(sites, lines, a, b, marks, work)
     }
 }

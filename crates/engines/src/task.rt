@@ -1,36 +1,39 @@
 //! Which calls an engine takes, and how it answers them.
 
-ghost use Rattle.std.specs.Prelude.{◌≡◌, length, Decides};
+ghost use Rattle.std.specs.Prelude.{◌≡◌, ◌<◌, ◌≤◌, ◌≢◌, length, IfSome, IfNone};
 ghost use Rattle.network.specs.Answers.{Task, Flows, Answer};
 
-use network::{Line, SiteWork, all_join};
+use network::{Flow, Line, Network, SiteWork};
 
-// Whether an engine takes the call; it declines every other.
-fn takes(sites: usize, lines: &[Line], a: usize, b: usize, marks: &[u8], work: &[SiteWork]) -> bool
-    ensures { Decides result (Task sites lines.now a b marks.now work.now) }
+// The network of a call that an engine takes; it declines every other.
+fn taken<'a>(
+    sites: usize,
+    lines: &'a [Line],
+    a: usize,
+    b: usize,
+    marks: &[u8],
+    work: &[SiteWork],
+) -> Option<Network<'a>>
+    ensures taken { IfSome result (λ n. Task sites lines.now a b marks.now work.now × (n.sites ≡ sites) × (n.lines.now ≡ lines.now)) }
+    ensures declined { IfNone result (Task sites lines.now a b marks.now work.now → ⊥) }
 {
-    sites <= 64
-        && lines.len() <= 512
-        && a != b
-        && a < sites
-        && b < sites
-        && lines.len() <= marks.len()
-        && sites <= work.len()
-        && all_join(sites, lines)
+    let net = Network::new(sites, lines)?;
+    if a != b && a < sites && b < sites && lines.len() <= marks.len() && sites <= work.len() {
+        Some(net)
+    } else {
+        None
+    }
 }
 
 // How an engine works on a call that it takes, with as many marks as there are lines and a record for each site.
 pub trait Method {
-    fn run(
-        lines: &[Line],
-        a: usize,
-        b: usize,
-        marks: &mut [u8],
-        work: &mut [SiteWork],
-    ) -> (usize, u64)
-        requires marked { length marks.old ≡ length lines.now }
-        requires task { Task (length work.old) lines.now a b marks.old work.old }
-        ensures { Flows (length work.old) lines.now a b marks.old marks.new result.0 result.1 };
+    fn run(net: &Network<'_>, a: usize, b: usize, marks: &mut [u8], work: &mut [SiteWork]) -> Flow
+        requires marked { length marks.old ≡ length net.now.lines.now }
+        requires kept { length work.old ≡ net.now.sites }
+        requires apart { a ≢ b }
+        requires a_within { a < net.now.sites }
+        requires b_within { b < net.now.sites }
+        ensures { Flows net.now.sites net.now.lines.now a b marks.old marks.new result.value result.side };
 }
 
 // Answers a call by the method, or declines it.
@@ -41,11 +44,9 @@ pub fn answer<M: Method>(
     b: usize,
     marks: &mut [u8],
     work: &mut [SiteWork],
-) -> (usize, u64)
+) -> Option<Flow>
     ensures { Answer sites lines.now a b marks.old marks.new work.old work.new result }
 {
-    if !takes(sites, lines, a, b, marks, work) {
-        return (0, 0);
-    }
-    M::run(lines, a, b, &mut marks[0..lines.len()], &mut work[0..sites])
+    let net = taken(sites, lines, a, b, marks, work)?;
+    Some(M::run(&net, a, b, &mut marks[..lines.len()], &mut work[..sites]))
 }
