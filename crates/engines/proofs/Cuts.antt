@@ -6,6 +6,7 @@ use Rattle.std.proofs.lemmas.Bool.Decides.{nat_tests}
 use Rattle.network.specs.declared.line.Line.{Line}
 use Rattle.network.specs.declared.engine.SiteWork.{SiteWork}
 use Rattle.network.specs.declared.engine.Flow.{Flow}
+use Rattle.engines.specs.declared.task.Question.{Question}
 use Rattle.network.specs.Lines.{line_at, Joins, AllJoin}
 use Rattle.network.specs.Sides.{member}
 use Rattle.network.specs.Cuts.{crosses, crossing_by}
@@ -109,20 +110,20 @@ answered ls ms₀ ms ws n a b v side size sized sized₀ joins in_a in_b marked 
     dark = is_dark (member side b) (seen_at ws b) (places b (omega arith)) stuck.dark
 
 -- an answer over the front of the marks, just as many as there are lines, is one over all of them
-pub widened : (n m : ℕ) (ls ls' : List Line) (a b : ℕ) (ms front after : List ℕ) (ws ws' : List SiteWork) (f : Flow) →
-    Task n ls a b ms ws → length after ≡ length ls → m ≡ n → ls' ≡ ls →
-    Flows m ls' a b front after f.value f.side → Answer n ls a b ms (after ++ drop (length ls) ms) ws ws' (Some f)
-widened n m ls ls' a b ms front after ws ws' f task size m_is ls_is flows = (task, whole)
+pub widened : (q : Question) (n : ℕ) (ls : List Line) (a b : ℕ) (ms front after : List ℕ) (ws ws' : List SiteWork) (f : Flow) →
+    Task n ls a b ms ws → length after ≡ length ls → (q.net.sites ≡ n) × (q.net.lines.now ≡ ls) × (q.a ≡ a) × (q.b ≡ b) →
+    Flows q.net.sites q.net.lines.now q.a q.b front after f.value f.side → Answer n ls a b ms (after ++ drop (length ls) ms) ws ws' (Some f)
+widened q n ls a b ms front after ws ws' f task size is flows = (task, whole)
   where
-    past : List ℕ
-    past = drop (length ls) ms
-
     here : Flows n ls a b front after f.value f.side
-    here = subst (λ (x : ℕ). Flows x ls a b front after f.value f.side) m_is
-        (subst (λ (x : List Line). Flows m x a b front after f.value f.side) ls_is flows)
+    here = subst (λ (x : ℕ). Flows x ls a b front after f.value f.side) is.0
+        (subst (λ (x : List Line). Flows q.net.sites x a b front after f.value f.side) is.1
+        (subst (λ (x : ℕ). Flows q.net.sites q.net.lines.now x b front after f.value f.side) is.2
+        (subst (λ (x : ℕ). Flows q.net.sites q.net.lines.now q.a x front after f.value f.side) is.3 flows)))
 
-    whole : Flows n ls a b ms (after ++ past) f.value f.side
+    whole : Flows n ls a b ms (after ++ drop (length ls) ms) f.value f.side
     whole =
+        let past = drop (length ls) ms in
         record {
           parted = here.parted;
           carried = record {

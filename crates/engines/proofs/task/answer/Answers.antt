@@ -5,6 +5,7 @@ use Rattle.engines.proofs.task.answer.Goals as goal
 
 pub returns : goal.returns
 returns g c =
-    let t = c.in_ok-net.ensures.taken in
-    let room = t.0.marks_room in
-    widened _ _ _ _ _ _ _ _ _ _ c.args.work.now c.run.result t.0 (c.run.auto.marks ∙ simp length-take (omega arith)) t.1 t.2 c.run.ensures
+    let task = c.in_ok-question.ensures.taken in
+    let room = task.marks_room in
+    widened c.in_ok-question.question _ _ _ _ _ _ _ c.args.work.now c.args.work.now c.run.result task (c.run.auto.marks ∙ simp length-take (omega arith))
+    c.in_ok-question.ensures.asked c.run.ensures
