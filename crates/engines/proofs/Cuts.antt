@@ -1,15 +1,17 @@
 -- Where no arc leaves a set of places, the free lines that cross it count what the marks carry out of it.
-use Rattle.std.proofs.Common.{◌≡◌, ℕ, ◌+◌, ◌^◌, ◌<◌, ◌≤◌, Bool, true, false, cond, not, eqb, List, ◌++◌, length, drop, sym, ap, ◌∙◌, subst, inl, inr, arith}
+use Rattle.std.proofs.Common.{◌≡◌, ℕ, ◌+◌, ◌^◌, ◌<◌, ◌≤◌, Bool, true, false, cond, not, eqb, List, ◌++◌, length, drop, Some, sym, ap, ◌∙◌, subst, inl, inr, arith}
 use Rattle.std.proofs.lemmas.List.{drop_all, drop_at, get_or_past, get_or_append_left}
 use Rattle.std.proofs.lemmas.Bool.{cases_lt}
 use Rattle.std.proofs.lemmas.Bool.Decides.{nat_tests}
 use Rattle.network.specs.declared.line.Line.{Line}
 use Rattle.network.specs.declared.engine.SiteWork.{SiteWork}
+use Rattle.network.specs.declared.engine.Flow.{Flow}
+use Rattle.engines.specs.declared.task.Question.{Question}
 use Rattle.network.specs.Lines.{line_at, Joins, AllJoin}
 use Rattle.network.specs.Sides.{member}
 use Rattle.network.specs.Cuts.{crosses, crossing_by}
 use Rattle.network.specs.Flow.{mark_at, one, leaves, arrives, outs, ins, Marked, AllMarked, Balanced}
-use Rattle.network.specs.Answers.{Task, PartedBy, Flows, Answer}
+use Rattle.network.specs.Answers.{Task, Flows, Answer}
 use Rattle.network.proofs.Sums.{sum_marked_plus, sum_marked_zero, sum_marked_count, outs_le, outs_front, ins_front, below, cut}
 use Rattle.engines.specs.Arcs.{tail, head, residual, arc}
 use Rattle.engines.specs.Search.{seen_at, Stuck}
@@ -108,20 +110,25 @@ answered ls ms₀ ms ws n a b v side size sized sized₀ joins in_a in_b marked 
     dark = is_dark (member side b) (seen_at ws b) (places b (omega arith)) stuck.dark
 
 -- an answer over the front of the marks, just as many as there are lines, is one over all of them
-pub widened : (n : ℕ) (ls : List Line) (a b : ℕ) (ms front after : List ℕ) (ws ws' : List SiteWork) (r : ℕ × ℕ) (m k : ℕ) →
-    Task n ls a b ms ws → length after ≡ length ls → m ≡ n → k ≡ length ls →
-    Flows m ls a b front after r.0 r.1 → Answer n ls a b ms (after ++ drop k ms) ws ws' r
-widened n ls a b ms front after ws ws' r m k task size m_is k_is f =
-    record { answers = λ _. whole; declines = λ none. absurd (none task) }
+pub widened : (q : Question) (n : ℕ) (ls : List Line) (a b : ℕ) (ms front after : List ℕ) (ws ws' : List SiteWork) (f : Flow) →
+    Task n ls a b ms ws → length after ≡ length ls → (q.net.sites ≡ n) × (q.net.lines.now ≡ ls) × (q.a ≡ a) × (q.b ≡ b) →
+    Flows q.net.sites q.net.lines.now q.a q.b front after f.value f.side → Answer n ls a b ms (after ++ drop (length ls) ms) ws ws' (Some f)
+widened q n ls a b ms front after ws ws' f task size is flows = (task, whole)
   where
-    whole : Flows n ls a b ms (after ++ drop k ms) r.0 r.1
+    here : Flows n ls a b front after f.value f.side
+    here = subst (λ (x : ℕ). Flows x ls a b front after f.value f.side) is.0
+        (subst (λ (x : List Line). Flows q.net.sites x a b front after f.value f.side) is.1
+        (subst (λ (x : ℕ). Flows q.net.sites q.net.lines.now x b front after f.value f.side) is.2
+        (subst (λ (x : ℕ). Flows q.net.sites q.net.lines.now q.a x front after f.value f.side) is.3 flows)))
+
+    whole : Flows n ls a b ms (after ++ drop (length ls) ms) f.value f.side
     whole =
-        let past = drop k ms in
+        let past = drop (length ls) ms in
         record {
-          parted = subst (λ (x : ℕ). PartedBy x ls a b r.0 r.1) m_is f.parted;
+          parted = here.parted;
           carried = record {
-            marked = λ j lt. subst (λ (x : ℕ). Marked (line_at ls j) x) (sym (get_or_append_left after past 0 j (omega arith))) (f.carried.marked j lt);
-            balanced = λ p. omega (arith, outs_front (eqb p) ls after past (omega arith), ins_front (eqb p) ls after past (omega arith), f.carried.balanced p);
+            marked = λ j lt. subst (λ (x : ℕ). Marked (line_at ls j) x) (sym (get_or_append_left after past 0 j (omega arith))) (here.carried.marked j lt);
+            balanced = λ p. omega (arith, outs_front (eqb p) ls after past (omega arith), ins_front (eqb p) ls after past (omega arith), here.carried.balanced p);
           };
-          rest = drop_at after past (length ls) size ∙ ap (λ (x : ℕ). drop x ms) k_is;
+          rest = drop_at after past (length ls) size;
         }

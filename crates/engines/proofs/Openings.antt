@@ -3,15 +3,17 @@ use Rattle.std.proofs.Common.{◌≡◌, ℕ, ◌+◌, ◌<◌, Bool, true, fals
 use Rattle.std.proofs.lemmas.List.{get_or-set_same, get_or-set_other}
 use Rattle.std.proofs.lemmas.Bool.{cases_eq, eq-eqb, ne_eqb, cond-true, cond-false, both_ways}
 use Rattle.network.specs.declared.line.Line.{Line}
+use Rattle.network.specs.declared.network.Network.{Network}
 use Rattle.network.specs.declared.engine.SiteWork.{SiteWork}
 use Rattle.network.specs.Lines.{line_at, AllJoin}
 use Rattle.network.specs.Flow.{mark_at, one}
+use Rattle.engines.specs.Hands.{InHand}
 use Rattle.engines.specs.Arcs.{tail, head, residual, arc, pushed, sent_over}
-use Rattle.engines.specs.Heights.{height_at, surplus_at, moved, Preflow, Fresh, Opening, Sends}
+use Rattle.engines.specs.Heights.{height_at, surplus_at, moved, Loaded, Preflow, Fresh, Opening, Sends}
 use Rattle.engines.proofs.Arcs.{head_below, tail_below, ends_apart, way_from, pushed_full, push_marked}
 use Rattle.engines.proofs.Cuts.{none_out, none_in, none_marked}
 use Rattle.engines.proofs.Moves.{moved_length, moved_surplus, moved_height}
-use Rattle.engines.proofs.Pushes.{push_account}
+use Rattle.engines.proofs.Pushes.{small, push_account}
 
 pub opening_none : (ls : List Line) (ms : List ℕ) (ws : List SiteWork) (a : ℕ) → ((k : ℕ) → mark_at ms k ≡ 0) → Fresh ws a (length ls) → Opening ls ms ws a 0
 opening_none ls ms ws a dark f =
@@ -29,6 +31,18 @@ opening_none ls ms ws a dark f =
       done = λ j e lt. absurd (omega arith);
       unmarked = λ j _. dark j;
       purse = omega (arith, f.purse);
+    }
+
+pub opening_loaded : (net : Network) (ms : List ℕ) (ws : List SiteWork) (a k : ℕ) → InHand net ms ws → Opening net.lines.now ms ws a k →
+    k < length net.lines.now → Loaded ws a
+opening_loaded net ms ws a k h o lt =
+    record {
+      has = omega (arith, o.purse);
+      small = λ q. omega (arith, small net.lines.now ms ws a q o.account, net.few_lines);
+      low = λ q. elim (cases_eq q a) [
+        | inl eq ↦ omega (arith, ap (height_at ws) eq, o.top, h.kept, net.few_sites)
+        | inr ne ↦ omega (arith, o.flat q ne)
+      ];
     }
 
 module _ (ls : List Line) (ms : List ℕ) (ws : List SiteWork) (a k : ℕ) (size : length ms ≡ length ls) (joins : AllJoin (length ws) ls)

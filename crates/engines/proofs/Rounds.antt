@@ -171,12 +171,12 @@ module _ (ls : List Line) (ms : List ℕ) (a d : ℕ) where
       subst (λ (x : Bool). Round ls ms a d x Done ws') (sym f) (subst (λ (x : List SiteWork). Round ls ms a d found Done x) (sym w) r)
 
   -- a line whose layers do not add up reaches nothing
-  no_reach : (ws : List SiteWork) (i : ℕ) (e : Bool) → adds_up ls d i ws ≡ false → reaches ls ms d i e ws ≡ false
+  no_reach : (ws : List SiteWork) (i : ℕ) (e : Bool) → adds_up d (line_at ls i) ws ≡ false → reaches ls ms d i e ws ≡ false
   no_reach ws i true off = grind (arith, nat_tests)
   no_reach ws i false off = grind (arith, nat_tests)
 
   pub round_pass : (found t : Bool) (ws : List SiteWork) (i : ℕ) → i < length ls → AllJoin (length ws) ls →
-      Round ls ms a d found (λ k _. k < i) ws → t ≡ adds_up ls d i ws → t ≡ false → Round ls ms a d found (λ k _. k < i + 1) ws
+      Round ls ms a d found (λ k _. k < i) ws → t ≡ adds_up d (line_at ls i) ws → t ≡ false → Round ls ms a d found (λ k _. k < i + 1) ws
   round_pass found t ws i inside joins r is off =
       let found_is : ((found || false) || false) ≡ found = grind (arith, nat_tests) in
       let none = no_reach ws i in

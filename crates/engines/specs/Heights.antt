@@ -56,6 +56,12 @@ weight n w = (2 * n - w.height) * 1025 + w.surplus * w.height
 abbrev pub left : ℕ → List SiteWork → ℕ
 left n ws = sum_by (weight n) ws
 
+-- p has a surplus, and no place has more than 1,024 units or is higher than 128
+pub record Loaded (ws : List SiteWork) (p : ℕ) : Type 0 where
+  pub has : 0 < surplus_at ws p
+  pub small : (q : ℕ) → surplus_at ws q ≤ 1024
+  pub low : (q : ℕ) → height_at ws q ≤ 128
+
 -- whether an arc from p took a unit of p's surplus, and what that leaves
 abbrev pub Sends : List Line → List ℕ → List SiteWork → List ℕ → List SiteWork → ℕ → ℕ → Bool → Bool → Type 0
 Sends ls ms ws ms' ws' p k e true =

@@ -1,3 +1,4 @@
+pub mod Hands
 pub mod Arcs
 pub mod Search
 pub mod Heights

@@ -59,9 +59,9 @@ abbrev pub reaches : List Line → List ℕ → ℕ → ℕ → Bool → List Si
 reaches ls ms d k e ws =
     (seen_at ws (tail (line_at ls k) e) == d) && (seen_at ws (head (line_at ls k) e) == 0 && arc ls ms k e)
 
--- the layers of the two ends of the line k add up to d: no arc over another line reaches anything
-abbrev pub adds_up : List Line → ℕ → ℕ → List SiteWork → Bool
-adds_up ls d k ws = seen_at ws (line_at ls k).first + seen_at ws (line_at ls k).second == d
+-- the layers of the two ends of the line add up to d: no arc over another line reaches anything
+abbrev pub adds_up : ℕ → Line → List SiteWork → Bool
+adds_up d l ws = seen_at ws l.first + seen_at ws l.second == d
 
 -- the record of a place seen at the layer d by the line k
 abbrev pub noted : ℕ → ℕ → SiteWork → SiteWork

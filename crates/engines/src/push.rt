@@ -1,13 +1,13 @@
 //! The engine that floods the network from one place and lets what cannot get to the other run back.
 
-ghost use Rattle.std.specs.Prelude.{◌≡◌, ℕ, ◌+◌, ◌^◌, ◌<◌, ◌≤◌, false, ◌||◌, length, ◌==◌, ◌≢◌};
-ghost use Rattle.network.specs.Lines.{AllJoin};
-ghost use Rattle.engines.specs.Heights.{height_at, surplus_at, moved, raised, Sends, Tried, TriedLine, TriedAll, Stepped, Preflow, Settled, Fresh, Opening};
+ghost use Rattle.std.specs.Prelude.{◌≡◌, ◌+◌, ◌^◌, ◌<◌, ◌||◌, length, ◌==◌, ◌≢◌, IfSome, IfNone};
+ghost use Rattle.engines.specs.Hands.{InHand};
+ghost use Rattle.engines.specs.Heights.{height_at, surplus_at, moved, raised, Loaded, Sends, Tried, TriedLine, TriedAll, Stepped, Preflow, Settled, Fresh, Opening};
 
-use crate::residual::{can_push, clear_marks, head_of, push_unit, tail_of};
+use crate::residual::{Way, clear_marks};
 use crate::search::{search, side_seen};
-use crate::task::{Method, answer};
-use network::{Engine, Line, SiteWork};
+use crate::task::{Method, Question, answer};
+use network::{Engine, Flow, Line, Network, SiteWork};
 
 // Takes one unit of surplus from p to q.
 fn move_surplus(work: &mut [SiteWork], p: usize, q: usize)
@@ -30,56 +30,35 @@ fn raise(work: &mut [SiteWork], p: usize)
     work[p].height += 1;
 }
 
-// Sends one unit of p's surplus over the line k, if that way leads from p and the line takes one.
-fn try_send(
-    lines: &[Line],
-    marks: &mut [u8],
-    work: &mut [SiteWork],
-    p: usize,
-    k: usize,
-    from_first: bool,
-) -> bool
-    requires listed { k < length lines.now }
-    requires marked { length marks.old ≡ length lines.now }
-    requires joined { AllJoin (length work.old) lines.now }
-    requires small { (q : ℕ) → surplus_at work.old q ≤ 1024 }
-    requires has { 0 < surplus_at work.old p }
-    ensures { Sends lines.now marks.old work.old marks.new work.new p k from_first result }
+// Sends one unit of p's surplus that way, if it leads from p and the line takes one.
+fn try_send(net: &Network<'_>, marks: &mut [u8], work: &mut [SiteWork], p: usize, way: Way) -> bool
+    requires listed { way.line < length net.now.lines.now }
+    requires in_hand { InHand net.now marks.old work.old }
+    requires loaded { Loaded work.old p }
+    ensures { Sends net.now.lines.now marks.old work.old marks.new work.new p way.line way.from_first result }
 {
-    let t = tail_of(lines, k, from_first);
-    let h = head_of(lines, k, from_first);
-    if t == p && can_push(&lines[k], marks[k], from_first) {
-        push_unit(marks, k, from_first);
-        move_surplus(work, t, h);
+    let (from, to) = way.ends(net);
+    if from == p && way.takes(net, marks) {
+        way.send(marks);
+        move_surplus(work, from, to);
         true
     } else {
         false
     }
 }
 
-// Sends one unit of p's surplus over the line k, if that way leads from p one step down and the line takes one.
-fn try_push(
-    lines: &[Line],
-    marks: &mut [u8],
-    work: &mut [SiteWork],
-    p: usize,
-    k: usize,
-    from_first: bool,
-) -> bool
-    requires listed { k < length lines.now }
-    requires marked { length marks.old ≡ length lines.now }
-    requires joined { AllJoin (length work.old) lines.now }
-    requires small { (q : ℕ) → surplus_at work.old q ≤ 1024 }
-    requires low { (q : ℕ) → height_at work.old q ≤ 128 }
-    requires has { 0 < surplus_at work.old p }
-    ensures { Tried lines.now marks.old work.old marks.new work.new p k from_first result }
+// Sends one unit of p's surplus that way, if it leads from p one step down and the line takes one.
+fn try_push(net: &Network<'_>, marks: &mut [u8], work: &mut [SiteWork], p: usize, way: Way) -> bool
+    requires listed { way.line < length net.now.lines.now }
+    requires in_hand { InHand net.now marks.old work.old }
+    requires loaded { Loaded work.old p }
+    ensures { Tried net.now.lines.now marks.old work.old marks.new work.new p way.line way.from_first result }
 {
-    let t = tail_of(lines, k, from_first);
-    let h = head_of(lines, k, from_first);
-    if work[t].height != work[h].height + 1 {
+    let (from, to) = way.ends(net);
+    if work[from].height != work[to].height + 1 {
         return false;
     }
-    try_send(lines, marks, work, p, k, from_first)
+    try_send(net, marks, work, p, way)
 }
 
 // Whether the line is one of p's.
@@ -90,127 +69,119 @@ fn touches(line: &Line, p: usize) -> bool
 }
 
 // Sends one unit of p's surplus one step down over the line k, if it is one of p's and takes it.
-fn try_line(lines: &[Line], marks: &mut [u8], work: &mut [SiteWork], p: usize, k: usize) -> bool
-    requires listed { k < length lines.now }
-    requires marked { length marks.old ≡ length lines.now }
-    requires joined { AllJoin (length work.old) lines.now }
-    requires small { (q : ℕ) → surplus_at work.old q ≤ 1024 }
-    requires low { (q : ℕ) → height_at work.old q ≤ 128 }
-    requires has { 0 < surplus_at work.old p }
-    ensures { TriedLine lines.now marks.old work.old marks.new work.new p k result }
+fn try_line(net: &Network<'_>, marks: &mut [u8], work: &mut [SiteWork], p: usize, k: usize) -> bool
+    requires listed { k < length net.now.lines.now }
+    requires in_hand { InHand net.now marks.old work.old }
+    requires loaded { Loaded work.old p }
+    ensures { TriedLine net.now.lines.now marks.old work.old marks.new work.new p k result }
 {
-    if !touches(&lines[k], p) {
+    if !touches(&net.lines[k], p) {
         return false;
     }
-    if try_push(lines, marks, work, p, k, true) {
+    if try_push(
+        net,
+        marks,
+        work,
+        p,
+        Way {
+            line: k,
+            from_first: true,
+        },
+    ) {
         return true;
     }
-    try_push(lines, marks, work, p, k, false)
+    try_push(
+        net,
+        marks,
+        work,
+        p,
+        Way {
+            line: k,
+            from_first: false,
+        },
+    )
 }
 
 // Sends one unit of p's surplus one step down, over the first line that takes it.
-fn push_from(lines: &[Line], marks: &mut [u8], work: &mut [SiteWork], p: usize) -> bool
-    requires marked { length marks.old ≡ length lines.now }
-    requires joined { AllJoin (length work.old) lines.now }
-    requires small { (q : ℕ) → surplus_at work.old q ≤ 1024 }
-    requires low { (q : ℕ) → height_at work.old q ≤ 128 }
-    requires has { 0 < surplus_at work.old p }
-    ensures { TriedAll lines.now marks.old work.old marks.new work.new p result }
+fn push_from(net: &Network<'_>, marks: &mut [u8], work: &mut [SiteWork], p: usize) -> bool
+    requires in_hand { InHand net.now marks.old work.old }
+    requires loaded { Loaded work.old p }
+    ensures { TriedAll net.now.lines.now marks.old work.old marks.new work.new p result }
 {
-    for k in 0..lines.len() {
-        if try_line(lines, marks, work, p, k) {
+    for k in 0..net.lines.len() {
+        if try_line(net, marks, work, p, k) {
             return true;
         }
     }
     false
 }
 
-// A place other than a and b that has a surplus, or the number of places.
-fn find_active(work: &[SiteWork], a: usize, b: usize) -> usize
-    ensures active { result < length work.now → (result ≢ a) × (result ≢ b) × (0 < surplus_at work.now result) }
-    ensures none { length work.now ≤ result → Settled work.now a b }
+// A place other than a and b that has a surplus.
+fn find_active(work: &[SiteWork], a: usize, b: usize) -> Option<usize>
+    ensures active { IfSome result (λ p. (p < length work.now) × (p ≢ a) × (p ≢ b) × (0 < surplus_at work.now p)) }
+    ensures none { IfNone result (Settled work.now a b) }
 {
-    for p in 0..work.len() {
-        if p != a && p != b && work[p].surplus != 0 {
-            return p;
-        }
-    }
-    work.len()
+    work.iter()
+        .enumerate()
+        .position(|(p, site)| p != a && p != b && site.surplus != 0)
 }
 
 // One step at p, which has a surplus: a unit goes down, or else p goes up.
-fn step(lines: &[Line], marks: &mut [u8], work: &mut [SiteWork], p: usize)
-    requires marked { length marks.old ≡ length lines.now }
-    requires few { length lines.now ≤ 512 }
-    requires joined { AllJoin (length work.old) lines.now }
-    requires small { (q : ℕ) → surplus_at work.old q ≤ 1024 }
-    requires low { (q : ℕ) → height_at work.old q ≤ 128 }
-    requires within { p < length work.old }
-    requires has { 0 < surplus_at work.old p }
-    ensures { Stepped lines.now marks.old work.old marks.new work.new p }
+fn step(net: &Network<'_>, marks: &mut [u8], work: &mut [SiteWork], p: usize)
+    requires in_hand { InHand net.now marks.old work.old }
+    requires loaded { Loaded work.old p }
+    requires within { p < net.now.sites }
+    ensures { Stepped net.now.lines.now marks.old work.old marks.new work.new p }
 {
-    if !push_from(lines, marks, work, p) {
+    if !push_from(net, marks, work, p) {
         raise(work, p);
     }
 }
 
 // Steps until all surplus is back at a or has come to b.
-fn drain(lines: &[Line], marks: &mut [u8], work: &mut [SiteWork], a: usize, b: usize)
-    requires marked { length marks.old ≡ length lines.now }
-    requires few { length lines.now ≤ 512 }
-    requires sites { length work.old ≤ 64 }
-    requires joined { AllJoin (length work.old) lines.now }
-    requires a_within { a < length work.old }
-    requires begun { Preflow lines.now marks.old work.old a b }
-    ensures ended { Preflow lines.now marks.new work.new a b }
-    ensures settled { Settled work.new a b }
+fn drain(question: &Question<'_>, marks: &mut [u8], work: &mut [SiteWork])
+    requires in_hand { InHand question.now.net marks.old work.old }
+    requires begun { Preflow question.now.net.lines.now marks.old work.old question.now.a question.now.b }
+    ensures ended { Preflow question.now.net.lines.now marks.new work.new question.now.a question.now.b }
+    ensures settled { Settled work.new question.now.a question.now.b }
 {
-    let mut p = find_active(work, a, b);
-    'steps: while p < work.len() {
-        step(lines, marks, work, p);
-        p = find_active(work, a, b);
+    'steps: while let Some(p) = find_active(work, question.a, question.b) {
+        step(&question.net, marks, work, p);
     }
 }
 
-// Puts all places at height 0 and with no surplus.
-fn flatten(work: &mut [SiteWork])
-    ensures { (q : ℕ) → (height_at work.new q ≡ 0) × (surplus_at work.new q ≡ 0) }
+// The table before the first push: all places at height 0 and with no surplus, but for a, which is as high as there are
+// places, and has as many units as there are lines.
+fn prepare(question: &Question<'_>, work: &mut [SiteWork])
+    requires { length work.old ≡ question.now.net.sites }
+    ensures { Fresh work.new question.now.a (length question.now.net.lines.now) }
 {
-    for p in 0..work.len() {
-        work[p] = SiteWork {
-            height: 0,
-            surplus: 0,
-            ..work[p]
-        };
-    }
-}
-
-// The table before the first push: a is as high as there are places, and has the units.
-fn prepare(work: &mut [SiteWork], a: usize, units: u16)
-    requires within { a < length work.old }
-    requires sites { length work.old ≤ 64 }
-    ensures { Fresh work.new a units }
-{
-    flatten(work);
-    let top = work.len() as u16;
-    work[a] = SiteWork {
-        height: top,
-        surplus: units,
-        ..work[a]
+    work.fill(SiteWork::default());
+    work[question.a] = SiteWork {
+        height: question.net.sites as u16,
+        surplus: question.net.lines.len() as u16,
+        ..SiteWork::default()
     };
 }
 
 // Sends away from a what the lines at a take.
-fn saturate(lines: &[Line], marks: &mut [u8], work: &mut [SiteWork], a: usize)
-    requires marked { length marks.old ≡ length lines.now }
-    requires few { length lines.now ≤ 512 }
-    requires joined { AllJoin (length work.old) lines.now }
-    requires begun { Opening lines.now marks.old work.old a 0 }
-    ensures { Opening lines.now marks.new work.new a (length lines.now) }
+fn saturate(question: &Question<'_>, marks: &mut [u8], work: &mut [SiteWork])
+    requires in_hand { InHand question.now.net marks.old work.old }
+    requires begun { Opening question.now.net.lines.now marks.old work.old question.now.a 0 }
+    ensures { Opening question.now.net.lines.now marks.new work.new question.now.a (length question.now.net.lines.now) }
 {
-    for k in 0..lines.len() {
-        let from_first = lines[k].first as usize == a;
-        let _ = try_send(lines, marks, work, a, k, from_first);
+    for (k, line) in question.net.lines.iter().enumerate() {
+        let from_first = line.first as usize == question.a;
+        let _ = try_send(
+            &question.net,
+            marks,
+            work,
+            question.a,
+            Way {
+                line: k,
+                from_first,
+            },
+        );
     }
 }
 
@@ -219,21 +190,18 @@ pub struct Push {}
 
 impl Method for Push {
     // Sends from a all that its lines take, and moves the surplus on until it has come to b or is back at a.
-    fn run(
-        lines: &[Line],
-        a: usize,
-        b: usize,
-        marks: &mut [u8],
-        work: &mut [SiteWork],
-    ) -> (usize, u64) {
+    fn run(question: &Question<'_>, marks: &mut [u8], work: &mut [SiteWork]) -> Flow {
         clear_marks(marks);
-        prepare(work, a, lines.len() as u16);
-        saturate(lines, marks, work, a);
-        drain(lines, marks, work, a, b);
-        let value = work[b].surplus as usize;
+        prepare(question, work);
+        saturate(question, marks, work);
+        drain(question, marks, work);
+        let value = work[question.b].surplus as usize;
         // Some height between b's and a's has no place, and no arc leads down past it: the search never reaches b.
-        let _ = search(lines, marks, work, a, b);
-        (value, side_seen(work))
+        let _ = search(question, marks, work);
+        Flow {
+            value,
+            side: side_seen(work),
+        }
     }
 }
 
@@ -245,7 +213,7 @@ impl Engine for Push {
         b: usize,
         marks: &mut [u8],
         work: &mut [SiteWork],
-    ) -> (usize, u64) {
+    ) -> Option<Flow> {
         answer::<Push>(sites, lines, a, b, marks, work)
     }
 }

@@ -3,52 +3,55 @@
 ghost use Rattle.std.specs.Prelude.{◌≡◌, ℕ, ◌<◌, length};
 ghost use Rattle.network.specs.Lines.{line_at};
 ghost use Rattle.network.specs.Flow.{mark_at};
-ghost use Rattle.engines.specs.Arcs.{tail, head, residual, sent_over};
+ghost use Rattle.engines.specs.Arcs.{tail, head, arc, sent_over};
 
-use network::Line;
+use network::Network;
 
-// Whether one more unit can go over the line, from its first place to its second or the other way.
-pub fn can_push(line: &Line, mark: u8, from_first: bool) -> bool
-    ensures { result ≡ residual line.now mark from_first }
-{
-    line.is_free() && mark != if from_first { 1 } else { 2 }
+// A line taken in one of its two directions: from its first place to its second, or back.
+#[derive(Clone, Copy)]
+pub struct Way {
+    pub line: usize,
+    pub from_first: bool,
 }
 
-// Sends one unit over the line k: an unused line starts to carry, one that carries the other way stops.
-pub fn push_unit(marks: &mut [u8], k: usize, from_first: bool)
-    requires { k < length marks.old }
-    ensures { marks.new ≡ sent_over marks.old k from_first }
-{
-    marks[k] = if marks[k] != 0 {
-        0
-    } else if from_first {
-        1
-    } else {
-        2
-    };
-}
-
-// The place that a unit comes from which goes over the line k that way.
-pub fn tail_of(lines: &[Line], k: usize, from_first: bool) -> usize
-    requires { k < length lines.now }
-    ensures { result ≡ tail (line_at lines.now k) from_first }
-{
-    if from_first {
-        lines[k].first as usize
-    } else {
-        lines[k].second as usize
+impl Way {
+    // The place that a unit comes from which goes this way, and the place that it comes to.
+    pub fn ends(self, net: &Network<'_>) -> (usize, usize)
+        requires { self.line < length net.now.lines.now }
+        ensures tail { result.0 ≡ tail (line_at net.now.lines.now self.line) self.from_first }
+        ensures head { result.1 ≡ head (line_at net.now.lines.now self.line) self.from_first }
+    {
+        let line = &net.lines[self.line];
+        if self.from_first {
+            (line.first as usize, line.second as usize)
+        } else {
+            (line.second as usize, line.first as usize)
+        }
     }
-}
 
-// The place that it comes to.
-pub fn head_of(lines: &[Line], k: usize, from_first: bool) -> usize
-    requires { k < length lines.now }
-    ensures { result ≡ head (line_at lines.now k) from_first }
-{
-    if from_first {
-        lines[k].second as usize
-    } else {
-        lines[k].first as usize
+    // Whether one more unit can go this way.
+    pub fn takes(self, net: &Network<'_>, marks: &[u8]) -> bool
+        requires listed { self.line < length net.now.lines.now }
+        requires marked { length marks.now ≡ length net.now.lines.now }
+        ensures { result ≡ arc net.now.lines.now marks.now self.line self.from_first }
+    {
+        let line = &net.lines[self.line];
+        let mark = marks[self.line];
+        line.is_free() && mark != if self.from_first { 1 } else { 2 }
+    }
+
+    // Sends one unit this way: an unused line starts to carry, one that carries the other way stops.
+    pub fn send(self, marks: &mut [u8])
+        requires { self.line < length marks.old }
+        ensures { marks.new ≡ sent_over marks.old self.line self.from_first }
+    {
+        marks[self.line] = if marks[self.line] != 0 {
+            0
+        } else if self.from_first {
+            1
+        } else {
+            2
+        };
     }
 }
 

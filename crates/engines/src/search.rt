@@ -1,13 +1,15 @@
 //! The search outward from a place, over lines that can still carry. Both engines read their side off it.
 
 ghost use Rattle.std.specs.Prelude.{◌≡◌, ℕ, ◌+◌, ◌^◌, ◌<◌, ◌≤◌, false, not, List, length, MatchBool, ◌==◌, slice_set};
-ghost use Rattle.network.specs.Lines.{AllJoin};
+ghost use Rattle.network.specs.Lines.{Joins};
 ghost use Rattle.network.specs.Sides.{member};
+ghost use Rattle.engines.specs.Hands.{InHand};
 ghost use Rattle.engines.specs.Search.{site_at, seen_at, noted, reaches, adds_up, seen_after, Scanned, Round, Found, Stuck};
 
-use crate::residual::{can_push, head_of, tail_of};
+use crate::residual::Way;
+use crate::task::Question;
 use network::side::insert;
-use network::{Line, SiteWork};
+use network::{Line, Network, SiteWork};
 
 fn note_seen(work: &mut [SiteWork], q: usize, by: u16, layer: u16)
     requires { q < length work.old }
@@ -20,97 +22,89 @@ fn note_seen(work: &mut [SiteWork], q: usize, by: u16, layer: u16)
     };
 }
 
-// Sees the far end of the line k, taken that way, where its near end is at the layer.
-fn try_reach(
-    lines: &[Line],
-    marks: &[u8],
-    work: &mut [SiteWork],
-    k: usize,
-    from_first: bool,
-    layer: u16,
-) -> bool
-    requires listed { k < length lines.now }
-    requires marked { length marks.now ≡ length lines.now }
-    requires few { length lines.now ≤ 512 }
+// Sees the place that the way leads to, where it comes from one at the layer.
+fn try_reach(net: &Network<'_>, marks: &[u8], work: &mut [SiteWork], way: Way, layer: u16) -> bool
+    requires listed { way.line < length net.now.lines.now }
+    requires in_hand { InHand net.now marks.now work.old }
     requires low { layer + 1 < 2 ^ 16 }
-    requires joined { AllJoin (length work.old) lines.now }
-    ensures answer { result ≡ reaches lines.now marks.now layer k from_first work.old }
-    ensures after { work.new ≡ seen_after lines.now layer k from_first work.old result }
+    ensures answer { result ≡ reaches net.now.lines.now marks.now layer way.line way.from_first work.old }
+    ensures after { work.new ≡ seen_after net.now.lines.now layer way.line way.from_first work.old result }
 {
-    let p = tail_of(lines, k, from_first);
-    let q = head_of(lines, k, from_first);
-    if work[p].seen == layer && work[q].seen == 0 && can_push(&lines[k], marks[k], from_first) {
-        note_seen(work, q, k as u16, layer + 1);
+    let (p, q) = way.ends(net);
+    if work[p].seen == layer && work[q].seen == 0 && way.takes(net, marks) {
+        note_seen(work, q, way.line as u16, layer + 1);
         true
     } else {
         false
     }
 }
 
-// Whether the layers of the two ends of the line k add up to the layer, as they do where one end is at it and the other is
+// Whether the layers of the two ends of the line add up to the layer, as they do where one end is at it and the other is
 // not seen. Most lines are passed by on this one test.
-fn may_reach(lines: &[Line], work: &[SiteWork], k: usize, layer: u16) -> bool
-    requires listed { k < length lines.now }
-    requires joined { AllJoin (length work.now) lines.now }
-    ensures { result ≡ adds_up lines.now layer k work.now }
+fn may_reach(line: &Line, work: &[SiteWork], layer: u16) -> bool
+    requires { Joins (length work.now) line.now }
+    ensures { result ≡ adds_up layer line.now work.now }
 {
-    let first = work[lines[k].first as usize].seen as usize;
-    let second = work[lines[k].second as usize].seen as usize;
+    let first = work[line.first as usize].seen as usize;
+    let second = work[line.second as usize].seen as usize;
     first + second == layer as usize
 }
 
 // One round of the search: sees the far ends of all lines whose near end is at the layer, and answers whether there
 // were any.
-fn scan_round(lines: &[Line], marks: &[u8], work: &mut [SiteWork], layer: u16) -> bool
-    requires marked { length marks.now ≡ length lines.now }
-    requires few { length lines.now ≤ 512 }
+fn scan_round(net: &Network<'_>, marks: &[u8], work: &mut [SiteWork], layer: u16) -> bool
+    requires in_hand { InHand net.now marks.now work.old }
     requires low { layer + 1 < 2 ^ 16 }
-    requires joined { AllJoin (length work.old) lines.now }
-    ensures { Scanned lines.now marks.now layer work.old work.new result }
+    ensures { Scanned net.now.lines.now marks.now layer work.old work.new result }
 {
     let mut found = false;
-    for i in 0..lines.len() {
-        if may_reach(lines, work, i, layer) {
-            let forth = try_reach(lines, marks, work, i, true, layer);
-            let back = try_reach(lines, marks, work, i, false, layer);
+    for (k, line) in net.lines.iter().enumerate() {
+        if may_reach(line, work, layer) {
+            let forth = try_reach(
+                net,
+                marks,
+                work,
+                Way {
+                    line: k,
+                    from_first: true,
+                },
+                layer,
+            );
+            let back = try_reach(
+                net,
+                marks,
+                work,
+                Way {
+                    line: k,
+                    from_first: false,
+                },
+                layer,
+            );
             found = found | forth | back;
         }
     }
     found
 }
 
-fn clear_seen(work: &mut [SiteWork])
-    ensures { (p : ℕ) → seen_at work.new p ≡ 0 }
-{
-    for p in 0..work.len() {
-        note_seen(work, p, 0, 0);
-    }
-}
-
 fn start_search(work: &mut [SiteWork], a: usize)
     requires { a < length work.old }
     ensures { (ls : List Line) (ms : List ℕ) → Round ls ms a 1 false (λ k e. ⊥) work.new }
 {
-    clear_seen(work);
+    work.fill(SiteWork::default());
     note_seen(work, a, 0, 1);
 }
 
 // Looks for a way from a to b over lines that can still carry, layer by layer. Where there is none, the places seen
 // are all that can be reached from a.
-pub fn search(lines: &[Line], marks: &[u8], work: &mut [SiteWork], a: usize, b: usize) -> bool
-    requires marked { length marks.now ≡ length lines.now }
-    requires few { length lines.now ≤ 512 }
-    requires sites { length work.old ≤ 64 }
-    requires joined { AllJoin (length work.old) lines.now }
-    requires a_within { a < length work.old }
-    requires b_within { b < length work.old }
-    ensures { MatchBool result (Found lines.now marks.now work.new a b) (Stuck lines.now marks.now work.new a b) }
+pub fn search(question: &Question<'_>, marks: &[u8], work: &mut [SiteWork]) -> bool
+    requires { InHand question.now.net marks.now work.old }
+    ensures { MatchBool result (Found question.now.net.lines.now marks.now work.new question.now.a question.now.b) (Stuck question.now.net.lines.now marks.now work.new question.now.a question.now.b) }
 {
-    start_search(work, a);
+    start_search(work, question.a);
     let mut layer = 1;
     'rounds: loop {
-        let found = scan_round(lines, marks, work, layer);
-        if work[b].seen != 0 {
+        let found = scan_round(&question.net, marks, work, layer);
+        if work[question.b].seen != 0 {
             return true;
         }
         if !found {
@@ -128,8 +122,8 @@ pub fn side_seen(work: &[SiteWork]) -> u64
     ensures places { (q : ℕ) → q < length work.now → member result q ≡ not (seen_at work.now q == 0) }
 {
     let mut side = 0;
-    for p in 0..work.len() {
-        if work[p].seen != 0 {
+    for (p, site) in work.iter().enumerate() {
+        if site.seen != 0 {
             side = insert(side, p);
         }
     }

@@ -1,36 +1,49 @@
 //! Which calls an engine takes, and how it answers them.
 
-ghost use Rattle.std.specs.Prelude.{◌≡◌, length, Decides};
+ghost use Rattle.std.specs.Prelude.{◌≡◌, ◌<◌, ◌≢◌, IfSome, IfNone};
 ghost use Rattle.network.specs.Answers.{Task, Flows, Answer};
+ghost use Rattle.engines.specs.Hands.{InHand};
 
-use network::{Line, SiteWork, all_join};
+use network::{Flow, Line, Network, SiteWork};
 
-// Whether an engine takes the call; it declines every other.
-fn takes(sites: usize, lines: &[Line], a: usize, b: usize, marks: &[u8], work: &[SiteWork]) -> bool
-    ensures { Decides result (Task sites lines.now a b marks.now work.now) }
-{
-    sites <= 64
-        && lines.len() <= 512
-        && a != b
-        && a < sites
-        && b < sites
-        && lines.len() <= marks.len()
-        && sites <= work.len()
-        && all_join(sites, lines)
+/// What an engine is asked: the flow from place `a` of a network to another place `b`.
+#[derive(Clone, Copy)]
+pub struct Question<'a> {
+    pub net: Network<'a>,
+    pub a: usize,
+    pub b: usize,
+    ghost apart: { a ≢ b },
+    ghost a_within: { a < net.sites },
+    ghost b_within: { b < net.sites },
 }
 
-// How an engine works on a call that it takes, with as many marks as there are lines and a record for each site.
+// The question of a call that an engine takes; it declines every other.
+fn taken<'a>(
+    sites: usize,
+    lines: &'a [Line],
+    a: usize,
+    b: usize,
+    marks: &[u8],
+    work: &[SiteWork],
+) -> Option<Question<'a>>
+    ensures taken { IfSome result (λ q. Task sites lines.now a b marks.now work.now) }
+    ensures asked { IfSome result (λ q. (q.net.sites ≡ sites) × (q.net.lines.now ≡ lines.now) × (q.a ≡ a) × (q.b ≡ b)) }
+    ensures declined { IfNone result (Task sites lines.now a b marks.now work.now → ⊥) }
+{
+    let net = Network::new(sites, lines)?;
+    if a != b && a < sites && b < sites && lines.len() <= marks.len() && sites <= work.len() {
+        Some(Question { net, a, b })
+    } else {
+        None
+    }
+}
+
+// How an engine works on a question, with as many marks as there are lines and a record for each site. Marks and records
+// stay two slices: a struct of two `&mut` would add to each contract that it keeps both.
 pub trait Method {
-    fn run(
-        lines: &[Line],
-        a: usize,
-        b: usize,
-        marks: &mut [u8],
-        work: &mut [SiteWork],
-    ) -> (usize, u64)
-        requires marked { length marks.old ≡ length lines.now }
-        requires task { Task (length work.old) lines.now a b marks.old work.old }
-        ensures { Flows (length work.old) lines.now a b marks.old marks.new result.0 result.1 };
+    fn run(question: &Question<'_>, marks: &mut [u8], work: &mut [SiteWork]) -> Flow
+        requires in_hand { InHand question.now.net marks.old work.old }
+        ensures { Flows question.now.net.sites question.now.net.lines.now question.now.a question.now.b marks.old marks.new result.value result.side };
 }
 
 // Answers a call by the method, or declines it.
@@ -41,11 +54,9 @@ pub fn answer<M: Method>(
     b: usize,
     marks: &mut [u8],
     work: &mut [SiteWork],
-) -> (usize, u64)
+) -> Option<Flow>
     ensures { Answer sites lines.now a b marks.old marks.new work.old work.new result }
 {
-    if !takes(sites, lines, a, b, marks, work) {
-        return (0, 0);
-    }
-    M::run(lines, a, b, &mut marks[0..lines.len()], &mut work[0..sites])
+    let question = taken(sites, lines, a, b, marks, work)?;
+    Some(M::run(&question, &mut marks[..lines.len()], &mut work[..sites]))
 }

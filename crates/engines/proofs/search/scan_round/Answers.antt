@@ -4,31 +4,31 @@ use Rattle.engines.proofs.Arcs.{joins_at}
 use Rattle.engines.proofs.search.scan_round.Goals as goal
 use Rattle.engines.proofs.search.scan_round.Goals.{then-may_reach, else-may_reach}
 
-pub loop-i-init : goal.loop-i-init
-loop-i-init c = λ a r.
-    round_weaken c.args.lines.now c.args.marks.now a c.args.layer false (λ k e. ⊥) (λ k e. k < 0) c.args.work.now (λ k e lt. omega arith) r
+pub loop-k-init : goal.loop-k-init
+loop-k-init c = λ a r.
+    round_weaken c.args.net.now.lines.now c.args.marks.now a c.args.layer false (λ k e. ⊥) (λ k e. k < 0) c.args.work.now (λ k e lt. omega arith) r
 
-pub loop-i-preserved : goal.loop-i-preserved
-loop-i-preserved c = λ a r.
-    let ls = c.args.lines.now in
+pub loop-k-preserved : goal.loop-k-preserved
+loop-k-preserved c = λ a r.
+    let ls = c.args.net.now.lines.now in
     let ms = c.args.marks.now in
     let d = c.args.layer in
-    let i = c.loop-i.i in
-    let found = c.loop-i.found in
-    let joins = joins_at (length c.args.work.now) (length c.loop-i.work) ls c.loop-i.auto.work c.requires.joined in
+    let i = c.loop-k.k in
+    let found = c.loop-k.found in
+    let joins = joins_at c.args.net.now.sites (length c.loop-k.work) ls (omega arith) c.args.net.now.joined in
     elim c.if-may_reach.branch [
       | then-may_reach w ↦
           let forth = w.try_reach-forth in
           let back = w.try_reach-back in
           round_as ls ms a d ((found || forth.result) || back.result) c.if-may_reach.found (λ k _. k < i + 1) back.new.work c.if-may_reach.work w.found-is w.work-is
-          (round_line ls ms a d found c.loop-i.work forth.new.work back.new.work i forth.result back.result c.loop-i-test.true joins
-          forth.auto.work (c.loop-i.invariant a r) forth.ensures.answer forth.ensures.after back.ensures.answer back.ensures.after)
+          (round_line ls ms a d found c.loop-k.work forth.new.work back.new.work i forth.result back.result c.loop-k-test.true joins
+          forth.auto.work (c.loop-k.invariant a r) forth.ensures.answer forth.ensures.after back.ensures.answer back.ensures.after)
       | else-may_reach w ↦
-          round_as ls ms a d found c.if-may_reach.found (λ k _. k < i + 1) c.loop-i.work c.if-may_reach.work w.found-is w.work-is
-          (round_pass ls ms a d found c.may_reach.result c.loop-i.work i c.loop-i-test.true joins (c.loop-i.invariant a r) c.may_reach.ensures w.if-may_reach.false)
+          round_as ls ms a d found c.if-may_reach.found (λ k _. k < i + 1) c.loop-k.work c.if-may_reach.work w.found-is w.work-is
+          (round_pass ls ms a d found c.may_reach.result c.loop-k.work i c.loop-k-test.true joins (c.loop-k.invariant a r) c.may_reach.ensures w.if-may_reach.false)
     ]
 
 pub returns : goal.returns
 returns c = λ a r.
-    round_weaken c.args.lines.now c.args.marks.now a c.args.layer c.loop-i.found (λ k e. k < c.loop-i.i)
-    (λ k e. k < length c.args.lines.now) c.loop-i.work (λ k e lt. omega arith) (c.loop-i.invariant a r)
+    round_weaken c.args.net.now.lines.now c.args.marks.now a c.args.layer c.loop-k.found (λ k e. k < c.loop-k.k)
+    (λ k e. k < length c.args.net.now.lines.now) c.loop-k.work (λ k e lt. omega arith) (c.loop-k.invariant a r)

@@ -3,7 +3,7 @@ use Rattle.engines.specs.Search.{Round}
 use Rattle.engines.proofs.search.search.Given as goal
 
 abbrev pub invariant-rounds : goal.invariant-rounds
-invariant-rounds l = Round l.lines l.marks l.a l.layer false (λ k e. ⊥) l.work
+invariant-rounds l = Round l.question.net.lines.now l.marks l.question.a l.layer false (λ k e. ⊥) l.work
 
 abbrev pub decreases-rounds : goal.decreases-rounds
 decreases-rounds l = length l.initial.work - l.layer

@@ -9,18 +9,18 @@ pub units-init : goal.units-init
 units-init c =
     let unused = all_unused c.clear_marks.new.marks c.clear_marks.ensures in
     record {
-      marked = none_marked c.args.lines.now c.clear_marks.new.marks unused;
-      balanced = none_balanced c.args.lines.now c.clear_marks.new.marks c.args.a c.args.b unused;
+      marked = none_marked c.args.question.now.net.lines.now c.clear_marks.new.marks unused;
+      balanced = none_balanced c.args.question.now.net.lines.now c.clear_marks.new.marks c.args.question.now.a c.args.question.now.b unused;
     }
 
-more : (c : After-augment) → Balanced c.args.lines.now c.augment.new.marks c.args.a c.args.b (c.units.value + 1)
+more : (c : After-augment) → Balanced c.args.question.now.net.lines.now c.augment.new.marks c.args.question.now.a c.args.question.now.b (c.units.value + 1)
 more c =
-    sent_balanced c.args.lines.now c.units.marks c.augment.new.marks c.args.a c.args.b c.units.value
+    sent_balanced c.args.question.now.net.lines.now c.units.marks c.augment.new.marks c.args.question.now.a c.args.question.now.b c.units.value
     c.augment.ensures.sent c.units.invariant.balanced
 
 -- each unit takes a line of its own at a
-room : (c : After-augment) → c.units.value + 1 ≤ length c.args.lines.now
-room c = value_le c.args.lines.now c.augment.new.marks c.args.a c.args.b (c.units.value + 1) (more c) c.requires.task.apart
+room : (c : After-augment) → c.units.value + 1 ≤ length c.args.question.now.net.lines.now
+room c = value_le c.args.question.now.net.lines.now c.augment.new.marks c.args.question.now.a c.args.question.now.b (c.units.value + 1) (more c) c.args.question.now.apart
 
 pub units-preserved : goal.units-preserved
 units-preserved c = record { marked = c.augment.ensures.sound; balanced = more (goal.at.units-preserved c).After-augment }
@@ -29,11 +29,11 @@ pub units-smaller : goal.units-smaller
 units-smaller c = omega (arith, room (goal.at.units-smaller c).After-augment)
 
 pub overflow_add-value : goal.overflow_add-value
-overflow_add-value c = omega (arith, room (goal.at.overflow_add-value c).After-augment, c.requires.task.few_lines)
+overflow_add-value c = omega (arith, room (goal.at.overflow_add-value c).After-augment, c.args.question.now.net.few_lines)
 
 pub returns : goal.returns
 returns c =
-    answered c.args.lines.now c.args.marks.now c.units.marks c.search.new.work (length c.args.work.now)
-    c.args.a c.args.b c.units.value c.side_seen.result (omega arith) (omega arith) c.requires.marked c.requires.task.joined
-    c.requires.task.a_within c.requires.task.b_within c.units.invariant.marked c.units.invariant.balanced c.units-test.ensures
+    answered c.args.question.now.net.lines.now c.args.marks.now c.units.marks c.search.new.work c.args.question.now.net.sites
+    c.args.question.now.a c.args.question.now.b c.units.value c.side_seen.result (omega arith) (omega arith) c.requires.in_hand.marked c.args.question.now.net.joined
+    c.args.question.now.a_within c.args.question.now.b_within c.units.invariant.marked c.units.invariant.balanced c.units-test.ensures
     c.side_seen.ensures.within c.side_seen.ensures.places
