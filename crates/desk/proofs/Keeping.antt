@@ -1,5 +1,5 @@
 -- Why a desk has room for every ticket, and why no release of its own is denied.
-use Rattle.std.proofs.Common.{◌≡◌, ℕ, ◌+◌, ◌<◌, ◌≤◌, true, false, ◌||◌, eqb, ◌≢◌, List, [], ◌∷◌, ◌++◌, map, length, get_or, Some, None, Ok, Err, vec_len, Result, sym, refl, ap, ◌∙◌, inl, inr, arith}
+use Rattle.std.proofs.Common.{◌≡◌, ℕ, ◌+◌, ◌<◌, ◌≤◌, true, false, ◌||◌, eqb, ◌≢◌, List, [], ◌∷◌, ◌++◌, map, length, get_or, Some, None, Ok, Err, IsOk, vec_len, Result, sym, refl, ap, ◌∙◌, inl, inr, arith}
 use Rattle.std.proofs.lemmas.List.{length-map, length_push, get_or-map}
 use Rattle.std.proofs.lemmas.Bool.{cases_Bool, cases_eq, both_ways, eq-eqb, ne_eqb, eqb-true, false≢true}
 use Rattle.std.specs.List.{remove}
@@ -159,8 +159,9 @@ module _ {E : Type 0} where
   accepted b t after (Ok u) m s h = h
   accepted b t after (Err d) m s h = absurd (not_denied b t _ m s h.0)
 
-  pub never_denied : (b : Book E) (t : Ticket) (after : Book E) (d : Denied) → t.mark ≡ b.mark → stands t.number (rows_of b) ≡ true → Released b t after (Err d) → ⊥
-  never_denied b t after d m s h = not_denied b t _ m s h.0
+  pub is_accepted : (b : Book E) (t : Ticket) (after : Book E) (r : Result (Unit {0}) Denied) → t.mark ≡ b.mark → stands t.number (rows_of b) ≡ true → Released b t after r → IsOk r
+  is_accepted b t after (Ok u) m s h = refl
+  is_accepted b t after (Err d) m s h = absurd (not_denied b t _ m s h.0)
 
   -- the other passes stay
   pub kept_removed : (b after : Book E) (t : Ticket) (ps ps' : List Pass) (i : ℕ) → Kept b ps → i < length ps → Good b ps i t → Freed b t.number after → ps' ≡ remove ps i → Kept after ps'

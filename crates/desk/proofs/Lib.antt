@@ -1,2 +1,3 @@
 pub mod Removing
 pub mod Keeping
+pub mod Finding

@@ -1,8 +1,8 @@
 //! Work on the passes of a desk, lent alone.
 
-ghost use Rattle.std.specs.Prelude.{◌≡◌, ◌<◌, ◌≤◌, false, [], ◌∷◌, ◌++◌, length, IfOk, vec_len, vec_capacity, MatchOption, ◌==◌, slice_index, slice_index_or};
-ghost use Rattle.network.specs.Lists.{among};
-ghost use Rattle.desk.specs.Passes.{number_of, numbers_of, pass_with};
+ghost use Rattle.std.specs.Prelude.{◌≡◌, ◌<◌, ◌≤◌, [], ◌∷◌, ◌++◌, IfOk, vec_len, vec_capacity, ◌==◌, find, position};
+ghost use Rattle.std.specs.Option.{option_copied};
+ghost use Rattle.desk.specs.Passes.{number_of, pass_with};
 
 use crate::pass::Pass;
 use book::Ticket;
@@ -24,14 +24,6 @@ pub(crate) fn keep(passes: &mut Vec<Pass>, ticket: Ticket, first: u16)
     passes.push_reserved(Pass { ticket, first });
 }
 
-/// The pass at a place.
-pub(crate) fn pass_at(passes: &[Pass], place: usize) -> &Pass
-    requires { place < length passes.now }
-    ensures { result.now ≡ slice_index_or passes.now place result.now }
-{
-    &passes[place]
-}
-
 // Whether the pass is that of a booking's number.
 fn is_for(pass: &Pass, number: u16) -> bool
     ensures { result ≡ (number_of pass.now == number) }
@@ -40,13 +32,15 @@ fn is_for(pass: &Pass, number: u16) -> bool
 }
 
 /// The place of the pass with a booking's number.
-pub(crate) fn find_pass(passes: &[Pass], number: u16) -> Option<usize>
-    ensures { MatchOption result (among (numbers_of passes.now) number ≡ false) (λ i. (i < length passes.now) × (slice_index (numbers_of passes.now) i ≡ number)) }
+pub(crate) fn place_of(passes: &[Pass], number: u16) -> Option<usize>
+    ensures { result ≡ position (λ p. number_of p == number) passes.now }
 {
-    for (place, pass) in passes.iter().enumerate() {
-        if is_for(pass, number) {
-            return Some(place);
-        }
-    }
-    None
+    passes.iter().position(|pass| is_for(pass, number))
+}
+
+/// The pass with a booking's number.
+pub(crate) fn pass_of(passes: &[Pass], number: u16) -> Option<&Pass>
+    ensures { option_copied result ≡ find (λ p. number_of p == number) passes.now }
+{
+    passes.iter().find(|pass| is_for(pass, number))
 }

@@ -8,7 +8,7 @@ ghost use Rattle.desk.specs.Desks.{Took, EndedAt, Ended, EndedNext};
 
 use super::Desk;
 use crate::pass::Pass;
-use crate::passes::{find_pass, keep, pass_at, room_for_all};
+use crate::passes::{keep, pass_of, place_of, room_for_all};
 use book::{Book, Fault};
 use network::Engine;
 use std::alloc::{AllocError, Global};
@@ -35,10 +35,7 @@ impl<E> Desk<E> {
     pub fn pass(&self, number: u16) -> Option<&Pass>
         ensures { MatchOption result (among (numbers_of self.now.passes.items) number ≡ false) (λ p. Held self.now.passes.items number p.now) }
     {
-        match find_pass(&self.passes, number) {
-            Some(place) => Some(pass_at(&self.passes, place)),
-            None => None,
-        }
+        pass_of(&self.passes, number)
     }
 }
 
@@ -66,13 +63,11 @@ impl<E: Engine> Desk<E> {
     pub fn release(&mut self, number: u16) -> bool
         ensures { Ended self.old number self.new result }
     {
-        match find_pass(&self.passes, number) {
-            Some(place) => {
-                let _ = self.release_at(place);
-                true
-            }
-            None => false,
-        }
+        let Some(place) = place_of(&self.passes, number) else {
+            return false;
+        };
+        self.release_at(place);
+        true
     }
 
     /// Releases the booking that the desk has held longest, and tells its number.
@@ -99,11 +94,7 @@ impl<E: Engine> Desk<E> {
     {
         let Pass { ticket, first: _ } = self.passes.remove(place);
         let number = ticket.number();
-        match self.book.release(ticket) {
-            Ok(()) => {}
-            // It is accepted, so this arm cannot be.
-            Err(_denied) => unreachable!(),
-        }
+        self.book.release(ticket).unwrap();
         number
     }
 }
