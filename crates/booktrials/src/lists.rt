@@ -1,7 +1,7 @@
 //! Lists that are too short by one, just long enough, and longer.
 
 use crate::nets::WORKED;
-use crate::say::{say, say_count, say_whether};
+use crate::say::{say, say_answer, say_whether};
 use crate::walk::{Booking, walked};
 use desk::Desk;
 use network::{Engine, Line};
@@ -24,7 +24,7 @@ fn show_in<E: Engine>(
     list: &mut [u16],
 ) -> anyhow::Result<()> {
     match desk.pass(1) {
-        Some(pass) => say_count(rt, call, desk.book().show(&pass.ticket, list)),
+        Some(pass) => say_answer(rt, call, desk.book().show(&pass.ticket, list)),
         None => say_whether(rt, call, false),
     }
 }
@@ -57,14 +57,14 @@ fn show_long<E: Engine>(rt: &HostRuntime, desk: &Desk<E>, before: &[Line]) -> an
 
 fn list_groups<E: Engine>(rt: &HostRuntime, desk: &Desk<E>) -> anyhow::Result<()> {
     let mut short = [9u16; 3];
-    say_count(rt, "groups 1 in 3", desk.book().groups(1, &mut short))?;
+    say_answer(rt, "groups 1 in 3", desk.book().groups(1, &mut short))?;
     say_whether(rt, "the list", short == [9; 3])?;
-    say_count(rt, "groups 0 in 3", desk.book().groups(0, &mut short))?;
+    say_answer(rt, "groups 0 in 3", desk.book().groups(0, &mut short))?;
     say_whether(rt, "the list", short == [9; 3])?;
     let mut exact = [9u16; 4];
-    say_count(rt, "groups 1 in 4", desk.book().groups(1, &mut exact))?;
+    say_answer(rt, "groups 1 in 4", desk.book().groups(1, &mut exact))?;
     say_whether(rt, "the list", exact == [10, 20, 30, 30])?;
     let mut longer = [9u16; 6];
-    say_count(rt, "groups 1 in 6", desk.book().groups(1, &mut longer))?;
+    say_answer(rt, "groups 1 in 6", desk.book().groups(1, &mut longer))?;
     say_whether(rt, "the list", longer == [10, 20, 30, 30, 9, 9])
 }

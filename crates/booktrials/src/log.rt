@@ -1,9 +1,10 @@
 //! What the calls of the long succession came to.
 
 use std::alloc::Global;
+use std::collections::BTreeMap;
 
 /// What a call came to.
-#[derive(Clone, Copy)]
+#[derive(Debug, Clone, Copy, PartialEq, Eq)]
 pub enum Kind {
     Booked,
     NoSite,
@@ -18,7 +19,8 @@ pub enum Kind {
     Listed,
 }
 
-const KINDS: usize = 11;
+// That each kind has a place in a list of so many is proved where a call is noted.
+const KINDS: usize = Kind::Listed as usize + 1;
 
 /// What has come so far.
 #[derive(Drop)]
@@ -29,8 +31,8 @@ pub struct Log {
     pub last: u16,
     /// How many lines the bookings that stand hold.
     pub held: usize,
-    /// What each booking showed at first, by its number less 1.
-    pub shown: Vec<Vec<u16>>,
+    /// What each booking showed at first, by its number.
+    pub shown: BTreeMap<u16, Vec<u16>>,
     seen: [usize; KINDS],
 }
 
@@ -40,7 +42,7 @@ impl Log {
             wrong: 0,
             last: 0,
             held: 0,
-            shown: Vec::new(heap),
+            shown: BTreeMap::new(heap),
             seen: [0; KINDS],
         }
     }
@@ -50,18 +52,12 @@ impl Log {
         if !right {
             self.wrong = self.wrong.saturating_add(1);
         }
-        if let Some(count) = self.seen.get_mut(kind as usize) {
-            *count = count.saturating_add(1);
-        }
+        let place = kind as usize;
+        self.seen[place] = self.seen[place].saturating_add(1);
     }
 
     /// Whether every kind of answer came so often.
     pub fn saw_all(&self, times: usize) -> bool {
-        for count in self.seen {
-            if count < times {
-                return false;
-            }
-        }
-        true
+        self.seen.iter().all(|count| *count >= times)
     }
 }

@@ -19,55 +19,37 @@ mod worked;
 
 use desk::Desk;
 use engines::{Push, ShortestRoute};
+use lists::try_lists;
+use marks::try_marks;
 use network::Engine;
+use parallel::try_parallel;
+use spent::try_spent;
+use succession::try_succession;
+use unopened::try_unopened;
+use worked::try_worked;
 
-#[derive(Clone, Copy)]
-enum Trial {
-    Worked,
-    Unopened,
-    Marks,
-    Lists,
-    Spent,
-    Parallel,
-    Succession,
-}
-
-const TRIALS: [Trial; 7] = [
-    Trial::Worked,
-    Trial::Unopened,
-    Trial::Marks,
-    Trial::Lists,
-    Trial::Spent,
-    Trial::Parallel,
-    Trial::Succession,
-];
-
-fn perform<E: Engine>(rt: &HostRuntime, desk: &mut Desk<E>, trial: Trial) -> anyhow::Result<()> {
-    match trial {
-        Trial::Worked => worked::try_worked(rt, desk),
-        Trial::Unopened => unopened::try_unopened(rt, desk),
-        Trial::Marks => marks::try_marks(rt, desk),
-        Trial::Lists => lists::try_lists(rt, desk),
-        Trial::Spent => spent::try_spent(rt, desk),
-        Trial::Parallel => parallel::try_parallel(rt, desk),
-        Trial::Succession => succession::try_succession(rt, desk),
-    }
-}
-
-// Each trial has a desk of its own. Whatever comes of it, the desk is closed after it.
-fn on_new_desk<E: Engine>(rt: &HostRuntime, trial: Trial) -> anyhow::Result<()> {
+// Makes a trial at a desk of its own. Whatever comes of it, the desk is closed after it.
+fn on_new_desk<E: Engine, F: FnOnce(&HostRuntime, &mut Desk<E>) -> anyhow::Result<()>>(
+    rt: &HostRuntime,
+    trial: F,
+) -> anyhow::Result<()>
+    requires { F.IsAlwaysCallable trial }
+{
     let mut desk: Desk<E> = Desk::new(rt.alloc())?;
-    let ended = perform(rt, &mut desk, trial);
+    let ended = trial(rt, &mut desk);
     desk.close();
     ended
 }
 
 fn try_all<E: Engine>(rt: &HostRuntime, name: &str) -> anyhow::Result<()> {
     println!(rt; "engine {name}")?;
-    for trial in TRIALS {
-        on_new_desk::<E>(rt, trial)?;
-    }
-    Ok(())
+    on_new_desk(rt, try_worked::<E>)?;
+    on_new_desk(rt, try_unopened::<E>)?;
+    on_new_desk(rt, try_marks::<E>)?;
+    on_new_desk(rt, try_lists::<E>)?;
+    on_new_desk(rt, try_spent::<E>)?;
+    on_new_desk(rt, try_parallel::<E>)?;
+    on_new_desk(rt, try_succession::<E>)
 }
 
 fn try_both(rt: &HostRuntime) -> anyhow::Result<()> {

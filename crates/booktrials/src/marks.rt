@@ -1,7 +1,7 @@
 //! Two books with different marks, and the tickets of one at the other.
 
 use crate::nets::WORKED;
-use crate::say::{say, say_count, say_whether};
+use crate::say::{say, say_answer, say_whether};
 use crate::walk::held;
 use book::{Book, Denied, Fault};
 use desk::Desk;
@@ -17,16 +17,6 @@ pub fn try_marks<E: Engine>(rt: &HostRuntime, desk: &mut Desk<E>) -> anyhow::Res
     release_on_other::<E>(rt)
 }
 
-// Whether the list still holds 9 from a position on.
-fn untouched(list: &[u16], from: usize) -> bool {
-    for number in list.iter().skip(from) {
-        if *number != 9 {
-            return false;
-        }
-    }
-    true
-}
-
 // Shows the booking 1 of one desk on the book of another, which is to write so many numbers.
 fn show_on<E: Engine>(
     rt: &HostRuntime,
@@ -37,10 +27,11 @@ fn show_on<E: Engine>(
 ) -> anyhow::Result<()> {
     let mut list = [9u16; 1024];
     match holder.pass(1) {
-        Some(pass) => say_count(rt, call, shower.book().show(&pass.ticket, &mut list))?,
+        Some(pass) => say_answer(rt, call, shower.book().show(&pass.ticket, &mut list))?,
         None => say_whether(rt, call, false)?,
     }
-    say_whether(rt, "the rest of the list", untouched(&list, written))
+    let untouched = list.iter().skip(written).all(|number| *number == 9);
+    say_whether(rt, "the rest of the list", untouched)
 }
 
 // Both have a booking 1, so that the marks alone tell the tickets apart. Before the other book is opened, its mark is 0

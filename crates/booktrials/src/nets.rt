@@ -11,16 +11,11 @@ pub const WORKED: &[u8; 76] = b"LNET\x01\x02\x0E\x00\x20\x00\x2E\x00\x1E\x00\
     \x04\x00\x1E\x00\x0A\x00\x05\x00\x1E\x00\x28\x00";
 
 fn put(file: &mut Vec<u8>, number: u16) -> Result<(), AllocError> {
-    let [low, high] = number.to_le_bytes();
-    file.push(low)?;
-    file.push(high)?;
-    Ok(())
+    file.extend_from_slice(&number.to_le_bytes())
 }
 
 fn put_header(file: &mut Vec<u8>, sites: u16, lines: u16) -> Result<(), AllocError> {
-    for byte in b"LNET\x01\x02" {
-        file.push(*byte)?;
-    }
+    file.extend_from_slice(b"LNET\x01\x02")?;
     let site_part = sites.wrapping_mul(8);
     put(file, 14)?;
     put(file, site_part)?;
@@ -30,10 +25,7 @@ fn put_header(file: &mut Vec<u8>, sites: u16, lines: u16) -> Result<(), AllocErr
 
 fn put_site(file: &mut Vec<u8>, number: u16) -> Result<(), AllocError> {
     put(file, number)?;
-    for byte in b"SITE  " {
-        file.push(*byte)?;
-    }
-    Ok(())
+    file.extend_from_slice(b"SITE  ")
 }
 
 // The line of a position: its ends lie one site apart and more, and with two sites it goes to and fro.

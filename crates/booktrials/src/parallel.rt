@@ -1,7 +1,7 @@
 //! As many lines as a network can have, all between two sites, booked at once.
 
 use crate::nets::made_network;
-use crate::say::{say, say_count, say_groups, say_level, say_whether};
+use crate::say::{say, say_answer, say_groups, say_level, say_whether};
 use crate::walk::{Booking, held, walked};
 use desk::Desk;
 use network::{Engine, Line};
@@ -25,14 +25,14 @@ fn show_all<E: Engine>(rt: &HostRuntime, desk: &Desk<E>, before: &[Line]) -> any
         return say_whether(rt, "the ticket", false);
     };
     let mut short = [9u16; 1023];
-    say_count(
+    say_answer(
         rt,
         "show in 1023",
         desk.book().show(&pass.ticket, &mut short),
     )?;
     say_whether(rt, "the list", short == [9; 1023])?;
     let mut list = [9u16; 1024];
-    say_count(
+    say_answer(
         rt,
         "show in 1024",
         desk.book().show(&pass.ticket, &mut list),

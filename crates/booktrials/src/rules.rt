@@ -10,152 +10,185 @@ pub const SITES: u16 = 12;
 
 pub const FIRST_SITE: u16 = 101;
 
-/// The place of a site; none where there is no site of that number.
-pub fn place_of(number: u16) -> Option<u8> {
-    if number < FIRST_SITE || number >= FIRST_SITE + SITES {
-        return None;
-    }
-    Some((number - FIRST_SITE) as u8)
+const END_OF_SITES: u16 = FIRST_SITE + SITES;
+
+/// The checks that a call on an open book can fail, in their order.
+#[derive(Debug, Clone, Copy, PartialEq, Eq)]
+pub enum Check {
+    NoSite,
+    SameSite,
+    NoLevel,
+    TooFew,
 }
 
-/// What is asked for: routes between two sites.
+impl Check {
+    /// Whether a denial is by this check: it has the check's published number.
+    pub fn speaks_in(self, fault: Fault) -> bool {
+        let number = match self {
+            Check::NoSite => 10,
+            Check::SameSite => 11,
+            Check::NoLevel => 12,
+            Check::TooFew => 14,
+        };
+        fault.number() == number
+    }
+}
+
+/// The place of a site; none where there is no site of that number.
+fn place_of(number: u16) -> Option<u8> {
+    let place = number.checked_sub(FIRST_SITE)?;
+    if place < SITES {
+        u8::try_from(place).ok()
+    } else {
+        None
+    }
+}
+
+/// Two sites that are asked about, by their numbers.
 #[derive(Clone, Copy)]
-pub struct Wish {
+pub struct Ends {
     pub first: u16,
     pub second: u16,
+}
+
+impl Ends {
+    /// Their places; none where one is no site.
+    pub fn places(self) -> Option<(u8, u8)> {
+        Some((place_of(self.first)?, place_of(self.second)?))
+    }
+
+    /// The check of the sites that they fail.
+    pub fn check(self) -> Result<(), Check> {
+        if self.places().is_none() {
+            return Err(Check::NoSite);
+        }
+        if self.first == self.second {
+            return Err(Check::SameSite);
+        }
+        Ok(())
+    }
+
+    // The one that is no site, the first of them where both are none.
+    fn stranger(self) -> u16 {
+        if place_of(self.first).is_none() {
+            self.first
+        } else {
+            self.second
+        }
+    }
+
+    // Their level, as the book tells it; none where it denies.
+    fn level<E>(self, book: &Book<E>) -> Option<usize> {
+        book.level(self.first, self.second).ok()
+    }
+
+    // Whether a side holds the first site and not the second, and so many free lines cross it.
+    fn are_parted<E>(self, book: &Book<E>, level: usize, side: u64) -> bool {
+        let Some((a, b)) = self.places() else {
+            return false;
+        };
+        contains(side, usize::from(a))
+            && !contains(side, usize::from(b))
+            && side < 1 << SITES
+            && crossing(book.lines(), side) == level
+    }
+}
+
+/// What is asked for: k routes between two sites.
+#[derive(Clone, Copy)]
+pub struct Wish {
+    pub ends: Ends,
     pub k: u32,
 }
 
-/// The number of the check of the sites that applies; 0 where none does.
-pub fn sites_check(first: u16, second: u16) -> u8 {
-    if place_of(first).is_none() || place_of(second).is_none() {
-        return 10;
+impl Wish {
+    /// The check that a booking fails.
+    pub fn check<E>(self, book: &Book<E>) -> Result<(), Check> {
+        self.ends.check()?;
+        if self.k == 0 {
+            return Err(Check::NoLevel);
+        }
+        if self.ends.level(book).unwrap_or(0) < self.k as usize {
+            return Err(Check::TooFew);
+        }
+        Ok(())
     }
-    if first == second { 11 } else { 0 }
-}
 
-/// The number of the check that denies a level question; 0 where none does.
-pub fn level_check<E>(book: &Book<E>, first: u16, second: u16) -> u8 {
-    match book.level(first, second) {
-        Ok(_) => 0,
-        Err(fault) => fault.number(),
-    }
-}
-
-/// The number of the check that applies to a booking; 0 where none does.
-pub fn booking_check<E>(book: &Book<E>, wish: Wish) -> u8 {
-    let check = sites_check(wish.first, wish.second);
-    if check != 0 {
-        return check;
-    }
-    if wish.k == 0 {
-        return 12;
-    }
-    match book.level(wish.first, wish.second) {
-        Ok(level) if level < wish.k as usize => 14,
-        Ok(_) => 0,
-        Err(_) => 255,
-    }
-}
-
-/// Whether what comes along with a denial is right.
-pub fn denied_rightly<E>(book: &Book<E>, wish: Wish, fault: Fault) -> bool {
-    match fault {
-        Fault::NoSuchSite(site) => {
-            site == if place_of(wish.first).is_none() {
-                wish.first
-            } else {
-                wish.second
+    /// Whether what comes along with a denial is right.
+    pub fn denied_rightly<E>(self, book: &Book<E>, fault: Fault) -> bool {
+        match fault {
+            Fault::NoSuchSite(site) => site == self.ends.stranger(),
+            Fault::TooFewRoutes(level, side) => {
+                self.ends.level(book) == Some(level) && self.ends.are_parted(book, level, side)
             }
+            _ => true,
         }
-        Fault::TooFewRoutes(level, side) => {
-            book.level(wish.first, wish.second).ok() == Some(level)
-                && side_is_right(book, wish.first, wish.second, level, side)
-        }
-        _ => true,
     }
-}
-
-// Whether a side holds the first site and not the second, and so many free lines cross it.
-fn side_is_right<E>(book: &Book<E>, first: u16, second: u16, level: usize, side: u64) -> bool {
-    let (Some(a), Some(b)) = (place_of(first), place_of(second)) else {
-        return false;
-    };
-    contains(side, a as usize)
-        && !contains(side, b as usize)
-        && side < 1 << SITES
-        && crossing(book.lines(), side) == level
 }
 
 /// Whether a cut has the level, that of the sites turned round too, and a side that shows it.
-pub fn cut_is_right<E>(book: &Book<E>, first: u16, second: u16, cut: Cut) -> bool {
-    book.level(first, second).ok() == Some(cut.level)
-        && book.level(second, first).ok() == Some(cut.level)
-        && cut.size == cut.side.count_ones()
-        && side_is_right(book, first, second, cut.level, cut.side)
+pub fn cut_is_right<E>(book: &Book<E>, ends: Ends, cut: Cut) -> bool {
+    let Cut { level, side, size } = cut;
+    let turned = Ends {
+        first: ends.second,
+        second: ends.first,
+    };
+    ends.level(book) == Some(level)
+        && turned.level(book) == Some(level)
+        && size == side.count_ones()
+        && ends.are_parted(book, level, side)
+}
+
+// What a line does once the booking of a number is released.
+fn state_without(line: &Line, number: u16) -> LineState {
+    match line.state {
+        LineState::Held(holder) if holder == number => LineState::Free,
+        state => state,
+    }
 }
 
 /// Whether the lines of a number are free and all others as they were.
 pub fn freed_rightly(before: &[Line], after: &[Line], number: u16) -> bool {
-    for position in 0..before.len() {
-        let (Some(was), Some(is)) = (before.get(position), after.get(position)) else {
-            return false;
-        };
-        let state = if was.state == LineState::Held(number) {
-            LineState::Free
-        } else {
-            was.state
-        };
-        if is.state != state {
-            return false;
-        }
-    }
-    true
+    before.len() == after.len()
+        && before
+            .iter()
+            .zip(after)
+            .all(|(was, is)| is.state == state_without(was, number))
 }
 
 /// How many sites stand for their own group.
 pub fn first_ones(list: &[u16]) -> usize {
-    let mut count = 0usize;
-    for (number, entry) in (FIRST_SITE..FIRST_SITE + SITES).zip(list) {
-        if number == *entry {
-            count = count.saturating_add(1);
-        }
-    }
-    count
+    (FIRST_SITE..END_OF_SITES)
+        .zip(list)
+        .filter(|(number, entry)| *number == **entry)
+        .count()
 }
 
-// Whether an entry names a site of the same entry that does not come after.
+// The entry of a site in a group list.
+fn entry_of(list: &[u16], number: u16) -> Option<u16> {
+    list.get(usize::from(place_of(number)?)).copied()
+}
+
+// Whether a site's entry names a site of the same entry that does not come after.
 fn entry_is_right(list: &[u16], number: u16) -> bool {
-    let own = list.get(number.saturating_sub(FIRST_SITE) as usize);
-    let Some(entry) = own else {
-        return false;
-    };
-    *entry >= FIRST_SITE && *entry <= number && list.get((*entry - FIRST_SITE) as usize) == own
+    let own = entry_of(list, number);
+    own.is_some_and(|entry| entry <= number && entry_of(list, entry) == own)
 }
 
-fn pair_is_right<E>(book: &Book<E>, list: &[u16], first: u16, second: u16, k: usize) -> bool {
-    let level = book
-        .level(
-            first.saturating_add(FIRST_SITE),
-            second.saturating_add(FIRST_SITE),
-        )
-        .unwrap_or(0);
-    let one = list.get(first as usize);
-    let other = list.get(second as usize);
-    (one == other) == (level >= k)
+fn pair_is_right<E>(book: &Book<E>, list: &[u16], ends: Ends, k: usize) -> bool {
+    let shared = entry_of(list, ends.first) == entry_of(list, ends.second);
+    shared == (ends.level(book).unwrap_or(0) >= k)
 }
 
 /// Whether two sites have one entry exactly where their level is k and more, and the entry is the first of them.
 pub fn groups_are_right<E>(book: &Book<E>, list: &[u16], k: usize) -> bool {
-    for first in 0..SITES {
-        if !entry_is_right(list, first.saturating_add(FIRST_SITE)) {
-            return false;
-        }
-        for second in 0..first {
-            if !pair_is_right(book, list, first, second, k) {
-                return false;
-            }
-        }
-    }
-    true
+    (FIRST_SITE..END_OF_SITES).all(|first| {
+        entry_is_right(list, first)
+            && (FIRST_SITE..first).all(|second| pair_is_right(
+                book,
+                list,
+                Ends { first, second },
+                k,
+            ))
+    })
 }

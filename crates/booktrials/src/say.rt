@@ -1,15 +1,16 @@
 //! What the trials print, a line each.
 
-use book::{Book, Fault};
+use book::{Book, Cut, Fault};
 use network::Engine;
 use std::fmt;
+use std::fmt::Display;
 
 /// A denial as it is printed: its number and what comes along; of too few routes the level alone, since more than one
 /// side may show it.
 #[derive(Clone, Copy)]
 pub struct Denial(pub Fault);
 
-impl fmt::Display for Denial {
+impl Display for Denial {
     fn fmt<W: fmt::Write>(&self, f: &mut fmt::Formatter<W>) -> fmt::Result {
         let number = self.0.number();
         write!(f, "denied {number}")?;
@@ -25,37 +26,57 @@ impl fmt::Display for Denial {
     }
 }
 
-/// Says whether a call was accepted.
-pub fn say<T: Drop>(rt: &HostRuntime, call: &str, answer: Result<T, Fault>) -> anyhow::Result<()> {
-    match answer {
-        Ok(_) => println!(rt; "  {call}: accepted")?,
-        Err(fault) => {
-            let denial = Denial(fault);
-            println!(rt; "  {call}: {denial}")?;
+/// A cut as it is printed.
+#[derive(Clone, Copy)]
+struct ShownCut(Cut);
+
+impl Display for ShownCut {
+    fn fmt<W: fmt::Write>(&self, f: &mut fmt::Formatter<W>) -> fmt::Result {
+        let Cut { level, side, size } = self.0;
+        write!(f, "level {level}, side {side}, of {size}")
+    }
+}
+
+/// How many groups there are, and the entries of their list, as they are printed.
+#[derive(Clone, Copy)]
+struct Groups<'a> {
+    count: usize,
+    entries: &'a [u16],
+}
+
+impl Display for Groups<'_> {
+    fn fmt<W: fmt::Write>(&self, f: &mut fmt::Formatter<W>) -> fmt::Result {
+        let count = self.count;
+        write!(f, "{count} of them:")?;
+        for number in self.entries {
+            write!(f, " {number}")?;
         }
+        Ok(())
+    }
+}
+
+/// Says what a call gave, or why it was denied.
+pub fn say_answer<C: Display + Drop, T: Display + Drop>(
+    rt: &HostRuntime,
+    call: C,
+    answer: Result<T, Fault>,
+) -> anyhow::Result<()> {
+    match answer.map_err(Denial) {
+        Ok(given) => println!(rt; "  {call}: {given}")?,
+        Err(denial) => println!(rt; "  {call}: {denial}")?,
     }
     Ok(())
 }
 
-/// Says what was counted, or why nothing was.
-pub fn say_count(rt: &HostRuntime, call: &str, answer: Result<usize, Fault>) -> anyhow::Result<()> {
-    match answer {
-        Ok(count) => println!(rt; "  {call}: {count}")?,
-        Err(fault) => {
-            let denial = Denial(fault);
-            println!(rt; "  {call}: {denial}")?;
-        }
-    }
-    Ok(())
+/// Says whether a call was accepted.
+pub fn say<T: Drop>(rt: &HostRuntime, call: &str, answer: Result<T, Fault>) -> anyhow::Result<()> {
+    say_answer(rt, call, answer.map(|_| "accepted"))
 }
 
 /// Says whether something is as it should be.
 pub fn say_whether(rt: &HostRuntime, what: &str, holds: bool) -> anyhow::Result<()> {
-    if holds {
-        println!(rt; "  {what}: as it should be")?;
-    } else {
-        println!(rt; "  {what}: WRONG")?;
-    }
+    let text = if holds { "as it should be" } else { "WRONG" };
+    println!(rt; "  {what}: {text}")?;
     Ok(())
 }
 
@@ -66,14 +87,8 @@ pub fn say_level<E>(
     first: u16,
     second: u16,
 ) -> anyhow::Result<()> {
-    match book.level(first, second) {
-        Ok(level) => println!(rt; "  level {first} {second}: {level}")?,
-        Err(fault) => {
-            let denial = Denial(fault);
-            println!(rt; "  level {first} {second}: {denial}")?;
-        }
-    }
-    Ok(())
+    let level = book.level(first, second);
+    say_answer(rt, format_args!("level {first} {second}"), level)
 }
 
 /// Says a cut, the side by its binary digits.
@@ -83,48 +98,25 @@ pub fn say_cut<E: Engine>(
     first: u16,
     second: u16,
 ) -> anyhow::Result<()> {
-    match book.cut(first, second) {
-        Ok(cut) => {
-            let level = cut.level;
-            let side = cut.side;
-            let size = cut.size;
-            println!(rt; "  cut {first} {second}: level {level}, side {side}, of {size}")?;
-        }
-        Err(fault) => {
-            let denial = Denial(fault);
-            println!(rt; "  cut {first} {second}: {denial}")?;
-        }
-    }
-    Ok(())
+    let cut = book.cut(first, second).map(ShownCut);
+    say_answer(rt, format_args!("cut {first} {second}"), cut)
 }
 
 /// Says a group list.
 pub fn say_groups<E>(rt: &HostRuntime, book: &Book<E>, k: u32) -> anyhow::Result<()> {
     let mut list = [0u16; 64];
-    match book.groups(k, &mut list) {
-        Ok(groups) => {
-            print!(rt; "  groups {k}: {groups} of them:")?;
-            for number in list.iter().take(book.sites().len()) {
-                print!(rt; " {number}")?;
-            }
-            println!(rt; "")?;
-        }
-        Err(fault) => {
-            let denial = Denial(fault);
-            println!(rt; "  groups {k}: {denial}")?;
-        }
-    }
-    Ok(())
+    let count = book.groups(k, &mut list);
+    let entries = list.get(..book.sites().len()).unwrap_or(&list);
+    let groups = count.map(|count| Groups { count, entries });
+    say_answer(rt, format_args!("groups {k}"), groups)
 }
 
 /// Says which lines are held.
 pub fn say_held<E>(rt: &HostRuntime, book: &Book<E>) -> anyhow::Result<()> {
     print!(rt; "  held lines:")?;
-    for line in book.lines() {
-        if !line.is_free() {
-            let number = line.number;
-            print!(rt; " {number}")?;
-        }
+    for line in book.lines().iter().filter(|line| !line.is_free()) {
+        let number = line.number;
+        print!(rt; " {number}")?;
     }
     println!(rt; "")?;
     Ok(())

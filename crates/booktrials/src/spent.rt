@@ -22,14 +22,12 @@ pub fn try_spent<E: Engine>(rt: &HostRuntime, desk: &mut Desk<E>) -> anyhow::Res
 }
 
 // Books and releases every number but the last; the answer is how many came in their order.
-fn take_turns<E: Engine>(desk: &mut Desk<E>) -> u16 {
-    for turn in 1..LAST_NUMBER {
-        let booked = desk.book_routes(101, 102, 1);
-        if booked.ok() != Some(turn) || !desk.release(turn) {
-            return turn - 1;
-        }
-    }
-    LAST_NUMBER - 1
+fn take_turns<E: Engine>(desk: &mut Desk<E>) -> usize {
+    (1..LAST_NUMBER)
+        .take_while(|turn| {
+            desk.book_routes(101, 102, 1).ok() == Some(*turn) && desk.release(*turn)
+        })
+        .count()
 }
 
 // Spent numbers come after what ails the sites and k, and before too few routes.

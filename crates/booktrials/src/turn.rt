@@ -3,10 +3,9 @@
 use crate::dice::Dice;
 use crate::log::{Kind, Log};
 use crate::rules::{
-    FIRST_SITE, SITES, Wish, booking_check, cut_is_right, denied_rightly, first_ones,
-    freed_rightly, groups_are_right, level_check, place_of, sites_check,
+    Check, Ends, FIRST_SITE, SITES, Wish, cut_is_right, first_ones, freed_rightly, groups_are_right,
 };
-use crate::walk::{Booking, held, held_by, same_lines, walked};
+use crate::walk::{Booking, held, held_by, walked};
 use book::Fault;
 use desk::Desk;
 use network::{Engine, Line, LineState};
@@ -15,56 +14,162 @@ use std::alloc::{AllocError, Global};
 // 40 lines make at most 80 numbers.
 const MOST_SHOWN: usize = 80;
 
-/// Makes one call, chosen by the dice, and holds what came against the rules.
-pub fn take_turn<E: Engine>(
-    heap: Global,
-    desk: &mut Desk<E>,
-    dice: &mut Dice,
-    log: &mut Log,
-) -> Result<(), AllocError> {
-    match dice.below(10) {
-        0..=3 => book_turn(heap, desk, dice, log)?,
-        4..=6 => release_turn(heap, desk, dice, log)?,
-        7 => show_turn(desk, dice, log),
-        8 => ask_turn(desk, dice, log),
-        _ => list_turn(desk, dice, log),
-    }
-    if held(desk.book().lines()) != log.held {
-        log.wrong = log.wrong.saturating_add(1);
-    }
-    Ok(())
+/// A desk whose calls are chosen by dice, and what they came to.
+#[derive(Drop)]
+pub struct Succession<'a, E> {
+    pub desk: &'a mut Desk<E>,
+    pub dice: Dice,
+    pub log: Log,
 }
 
-// A number of a site, or one beside them.
-fn any_site(dice: &mut Dice) -> u16 {
-    dice.below(SITES + 2) + (FIRST_SITE - 1)
-}
-
-fn book_turn<E: Engine>(
-    heap: Global,
-    desk: &mut Desk<E>,
-    dice: &mut Dice,
-    log: &mut Log,
-) -> Result<(), AllocError> {
-    let wish = Wish {
-        first: any_site(dice),
-        second: any_site(dice),
-        k: u32::from(dice.below(5)),
-    };
-    let before = desk.book().lines().to_vec(heap)?;
-    let check = booking_check(desk.book(), wish);
-    match desk.book_routes(wish.first, wish.second, wish.k) {
-        Ok(number) => {
-            let right = accepted_rightly(heap, desk, log, wish, number, &before)?;
-            log.note(Kind::Booked, right && check == 0);
+impl<E: Engine> Succession<'_, E> {
+    /// Makes one call, chosen by the dice, and holds what came against the rules.
+    pub fn take_turn(&mut self, heap: Global) -> Result<(), AllocError> {
+        // An enum of the five calls between the dice and these arms would only name each call twice.
+        match self.dice.below(10) {
+            0..=3 => self.book(heap)?,
+            4..=6 => self.release(heap)?,
+            7 => self.show(),
+            8 => self.ask(),
+            _ => self.list(),
         }
-        Err(fault) => {
-            let right = denied_rightly(desk.book(), wish, fault)
-                && same_lines(&before, desk.book().lines());
-            log.note(kind_of(fault), right && fault.number() == check);
+        if held(self.desk.book().lines()) != self.log.held {
+            self.log.wrong = self.log.wrong.saturating_add(1);
+        }
+        Ok(())
+    }
+
+    // A number of a site, or one beside them.
+    fn any_site(&mut self) -> u16 {
+        self.dice.below(SITES + 2) + (FIRST_SITE - 1)
+    }
+
+    fn any_ends(&mut self) -> Ends {
+        let first = self.any_site();
+        let second = self.any_site();
+        Ends { first, second }
+    }
+
+    // The number of a booking that holds a line chosen by the dice, or one that was given at some time.
+    fn any_number(&mut self) -> u16 {
+        let position = usize::from(self.dice.below(40));
+        match self
+            .desk
+            .book()
+            .lines()
+            .get(position)
+            .map(|line| line.state)
+        {
+            Some(LineState::Held(number)) => number,
+            _ => self.dice.below(self.log.last.saturating_add(1)),
         }
     }
-    Ok(())
+
+    fn book(&mut self, heap: Global) -> Result<(), AllocError> {
+        let ends = self.any_ends();
+        let k = u32::from(self.dice.below(5));
+        let wish = Wish { ends, k };
+        let before = self.desk.book().lines().to_vec(heap)?;
+        let check = wish.check(self.desk.book());
+        match self.desk.book_routes(ends.first, ends.second, k) {
+            Ok(number) => {
+                let right = self.accepted_rightly(heap, wish, number, &before)?;
+                self.log.note(Kind::Booked, right && check.is_ok());
+            }
+            Err(fault) => {
+                let right = wish.denied_rightly(self.desk.book(), fault)
+                    && before.as_slice() == self.desk.book().lines()
+                    && check.is_err_and(|check| check.speaks_in(fault));
+                self.log.note(kind_of(fault), right);
+            }
+        }
+        Ok(())
+    }
+
+    // Whether a booking has the next number and shows as many routes as were asked for; it is put down.
+    fn accepted_rightly(
+        &mut self,
+        heap: Global,
+        wish: Wish,
+        number: u16,
+        before: &[Line],
+    ) -> Result<bool, AllocError> {
+        let mut list = [0u16; MOST_SHOWN];
+        let shown = shown_of(self.desk, number, &mut list);
+        let after = self.desk.book().lines();
+        let next = self.log.last.saturating_add(1);
+        self.log.last = number;
+        self.log.held = self.log.held.saturating_add(held_by(after, number));
+        self.log.shown.insert(number, shown.to_vec(heap)?)?;
+        let Some((first, second)) = wish.ends.places() else {
+            return Ok(false);
+        };
+        let booking = Booking {
+            before,
+            after,
+            number,
+            first,
+            second,
+        };
+        Ok(number == next && walked(booking, shown) == Some(wish.k as usize))
+    }
+
+    fn release(&mut self, heap: Global) -> Result<(), AllocError> {
+        let number = self.any_number();
+        let before = self.desk.book().lines().to_vec(heap)?;
+        let lines = held_by(&before, number);
+        if self.desk.release(number) {
+            let right = lines > 0 && freed_rightly(&before, self.desk.book().lines(), number);
+            self.log.held = self.log.held.saturating_sub(lines);
+            self.log.note(Kind::Released, right);
+        } else {
+            let right = lines == 0 && before.as_slice() == self.desk.book().lines();
+            self.log.note(Kind::NotReleased, right);
+        }
+        Ok(())
+    }
+
+    // A booking that stands shows what it showed at first.
+    fn show(&mut self) {
+        let number = self.any_number();
+        if held_by(self.desk.book().lines(), number) == 0 {
+            let right = self.desk.pass(number).is_none();
+            self.log.note(Kind::NotShown, right);
+            return;
+        }
+        let mut list = [0u16; MOST_SHOWN];
+        let shown = shown_of(self.desk, number, &mut list);
+        let first = self.log.shown.get(&number);
+        let right = first.is_some_and(|first| first.as_slice() == shown);
+        self.log.note(Kind::Shown, right);
+    }
+
+    fn ask(&mut self) {
+        let ends = self.any_ends();
+        let book = self.desk.book();
+        let right = match (book.cut(ends.first, ends.second), ends.check()) {
+            (Ok(cut), Ok(())) => cut_is_right(book, ends, cut),
+            (Err(fault), Err(check)) => {
+                check.speaks_in(fault) && book.level(ends.first, ends.second) == Err(fault)
+            }
+            _ => false,
+        };
+        self.log.note(Kind::Asked, right);
+    }
+
+    fn list(&mut self) {
+        let k = u32::from(self.dice.below(7));
+        let mut list = [9u16; 14];
+        let book = self.desk.book();
+        let right = match book.groups(k, &mut list) {
+            Ok(groups) => k > 0
+                && groups == first_ones(&list)
+                && groups_are_right(book, &list, k as usize),
+            Err(fault) => k == 0 && Check::NoLevel.speaks_in(fault) && list == [9; 14],
+        };
+        self.log
+            .note(Kind::Listed, right && list[12] == 9 && list[13] == 9);
+    }
 }
 
 fn kind_of(fault: Fault) -> Kind {
@@ -76,118 +181,13 @@ fn kind_of(fault: Fault) -> Kind {
     }
 }
 
-// Whether a booking has the next number and shows as many routes as were asked for; it is put down.
-fn accepted_rightly<E: Engine>(
-    heap: Global,
-    desk: &Desk<E>,
-    log: &mut Log,
-    wish: Wish,
-    number: u16,
-    before: &[Line],
-) -> Result<bool, AllocError> {
-    let mut list = [0u16; MOST_SHOWN];
-    let shown = shown_of(desk, number, &mut list);
-    let next = log.last.saturating_add(1);
-    log.last = number;
-    log.held = log
-        .held
-        .saturating_add(held_by(desk.book().lines(), number));
-    log.shown.push(shown.to_vec(heap)?)?;
-    let (Some(first), Some(second)) = (place_of(wish.first), place_of(wish.second)) else {
-        return Ok(false);
-    };
-    let booking = Booking {
-        before,
-        after: desk.book().lines(),
-        number,
-        first,
-        second,
-    };
-    Ok(number == next && walked(booking, shown) == Some(wish.k as usize))
-}
-
 // What a booking shows; nothing where it does not.
 fn shown_of<'a, E: Engine>(desk: &Desk<E>, number: u16, list: &'a mut [u16]) -> &'a [u16] {
     let Some(pass) = desk.pass(number) else {
         return &[];
     };
     match desk.book().show(&pass.ticket, list) {
-        Ok(written) => list.get(0..written).unwrap_or(&[]),
+        Ok(written) => list.get(..written).unwrap_or(&[]),
         Err(_) => &[],
     }
-}
-
-// The number of a booking that holds a line chosen by the dice, or one that was given at some time.
-fn any_number<E>(desk: &Desk<E>, dice: &mut Dice, log: &Log) -> u16 {
-    let position = dice.below(40) as usize;
-    if let Some(line) = desk.book().lines().get(position) {
-        if let LineState::Held(number) = line.state {
-            return number;
-        }
-    }
-    dice.below(log.last.saturating_add(1))
-}
-
-fn release_turn<E: Engine>(
-    heap: Global,
-    desk: &mut Desk<E>,
-    dice: &mut Dice,
-    log: &mut Log,
-) -> Result<(), AllocError> {
-    let number = any_number(desk, dice, log);
-    let before = desk.book().lines().to_vec(heap)?;
-    let lines = held_by(&before, number);
-    if desk.release(number) {
-        log.held = log.held.saturating_sub(lines);
-        log.note(
-            Kind::Released,
-            lines > 0 && freed_rightly(&before, desk.book().lines(), number),
-        );
-    } else {
-        log.note(
-            Kind::NotReleased,
-            lines == 0 && same_lines(&before, desk.book().lines()),
-        );
-    }
-    Ok(())
-}
-
-// A booking that stands shows what it showed at first.
-fn show_turn<E: Engine>(desk: &Desk<E>, dice: &mut Dice, log: &mut Log) {
-    let number = any_number(desk, dice, log);
-    let lines = held_by(desk.book().lines(), number);
-    if lines == 0 {
-        log.note(Kind::NotShown, desk.pass(number).is_none());
-        return;
-    }
-    let mut list = [0u16; MOST_SHOWN];
-    let shown = shown_of(desk, number, &mut list);
-    let right = match log.shown.get((number as usize).saturating_sub(1)) {
-        Some(first) => first.as_slice() == shown,
-        None => false,
-    };
-    log.note(Kind::Shown, right);
-}
-
-fn ask_turn<E: Engine>(desk: &Desk<E>, dice: &mut Dice, log: &mut Log) {
-    let first = any_site(dice);
-    let second = any_site(dice);
-    let check = sites_check(first, second);
-    let right = match desk.book().cut(first, second) {
-        Ok(cut) => check == 0 && cut_is_right(desk.book(), first, second, cut),
-        Err(fault) => check == fault.number() && level_check(desk.book(), first, second) == check,
-    };
-    log.note(Kind::Asked, right);
-}
-
-fn list_turn<E: Engine>(desk: &Desk<E>, dice: &mut Dice, log: &mut Log) {
-    let k = u32::from(dice.below(7));
-    let mut list = [9u16; 14];
-    let right = match desk.book().groups(k, &mut list) {
-        Ok(groups) => k > 0
-            && groups == first_ones(&list)
-            && groups_are_right(desk.book(), &list, k as usize),
-        Err(fault) => k == 0 && fault.number() == 12 && list == [9; 14],
-    };
-    log.note(Kind::Listed, right && list[12] == 9 && list[13] == 9);
 }

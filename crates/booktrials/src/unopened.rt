@@ -1,7 +1,7 @@
 //! A book that holds no network, and openings that are denied.
 
 use crate::nets::WORKED;
-use crate::say::{say, say_count, say_cut, say_groups, say_level, say_whether};
+use crate::say::{say, say_answer, say_cut, say_groups, say_level, say_whether};
 use desk::Desk;
 use network::Engine;
 
@@ -24,10 +24,10 @@ fn ask_nothing<E: Engine>(rt: &HostRuntime, desk: &mut Desk<E>) -> anyhow::Resul
 // Nothing is to be written, so that no list is too short.
 fn list_nothing<E: Engine>(rt: &HostRuntime, desk: &Desk<E>) -> anyhow::Result<()> {
     let mut list = [7u16, 8, 9];
-    say_count(rt, "groups 1 into three", desk.book().groups(1, &mut list))?;
+    say_answer(rt, "groups 1 into three", desk.book().groups(1, &mut list))?;
     say_whether(rt, "the three", list == [7, 8, 9])?;
     let mut none = [0u16; 0];
-    say_count(
+    say_answer(
         rt,
         "groups 512 into none",
         desk.book().groups(512, &mut none),

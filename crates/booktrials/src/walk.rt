@@ -1,7 +1,11 @@
 //! Walks the routes that a booking shows, and counts lines.
 
+ghost use Rattle.std.specs.Prelude.{length};
+ghost use Rattle.std.specs.Iterator.{at_most};
+
 use network::side::{contains, insert};
 use network::{Line, LineState};
+use std::mem;
 
 // A book has no more lines.
 const MOST_LINES: usize = 512;
@@ -16,111 +20,101 @@ pub struct Booking<'a, 'b> {
     pub second: u8,
 }
 
-// The position of a line by its number.
-fn position_of(lines: &[Line], number: u16) -> Option<usize> {
-    for (position, line) in lines.iter().enumerate() {
-        if line.number == number {
-            return Some(position);
-        }
-    }
-    None
-}
-
 // Where a line leads from a place; none where it does not touch it.
 fn far_end(line: &Line, here: u8) -> Option<u8> {
     if line.first == here {
-        return Some(line.second);
-    }
-    if line.second == here {
-        return Some(line.first);
-    }
-    None
-}
-
-// Marks a line as used; false where it has been used already.
-fn use_line(used: &mut [bool], position: usize) -> bool {
-    match used.get_mut(position) {
-        Some(mark) => {
-            let fresh = !*mark;
-            *mark = true;
-            fresh
-        }
-        None => false,
-    }
-}
-
-// One step of a route: the place after it; none where the line is unknown, used already or not at this place.
-fn step(lines: &[Line], used: &mut [bool], here: u8, number: u16) -> Option<u8> {
-    let position = position_of(lines, number)?;
-    let line = lines.get(position)?;
-    let there = far_end(line, here)?;
-    if use_line(used, position) {
-        Some(there)
+        Some(line.second)
+    } else if line.second == here {
+        Some(line.first)
     } else {
         None
     }
 }
 
+// One step of a route: the place after it; none where the line is unknown, used already or not at this place.
+fn step(lines: &[Line], used: &mut [bool], here: u8, number: u16) -> Option<u8> {
+    let position = lines.iter().position(|line| line.number == number)?;
+    let there = far_end(lines.get(position)?, here)?;
+    if mem::replace(used.get_mut(position)?, true) {
+        return None;
+    }
+    Some(there)
+}
+
 // Whether the line numbers lead from the first place to the second and to no place twice.
 fn walk_route(booking: Booking<'_, '_>, used: &mut [bool], numbers: &[u16]) -> bool {
     let mut here = booking.first;
-    let mut seen = insert(0, here as usize);
+    let mut seen = insert(0, usize::from(here));
     for number in numbers {
         let Some(there) = step(booking.before, used, here, *number) else {
             return false;
         };
-        if contains(seen, there as usize) {
+        if contains(seen, usize::from(there)) {
             return false;
         }
-        seen = insert(seen, there as usize);
+        seen = insert(seen, usize::from(there));
         here = there;
     }
     here == booking.second
 }
 
+/// The runs of a list, each its count and then as many numbers; one that the list is too short for is none, and the
+/// last.
+#[derive(Clone, Copy)]
+struct Runs<'a>(&'a [u16]);
+
+impl<'a> Iterator for Runs<'a> {
+    type Item = Option<&'a [u16]>;
+
+    ghost remaining = { λ runs. at_most (length runs.0.now) };
+
+    fn next(&mut self) -> Option<Option<&'a [u16]>> {
+        let (count, rest) = self.0.split_first()?;
+        match rest.split_at_checked(usize::from(*count)) {
+            Some((run, after)) => {
+                self.0 = after;
+                Some(Some(run))
+            }
+            None => {
+                self.0 = &[];
+                Some(None)
+            }
+        }
+    }
+}
+
 // Walks every route; the answer is how many there are, none where one is not as it should be.
 fn walk_all(booking: Booking<'_, '_>, used: &mut [bool], shown: &[u16]) -> Option<usize> {
-    let mut rest = shown;
     let mut routes = 0usize;
-    for _ in 0..shown.len() {
-        let [count, after @ ..] = rest else {
-            break;
-        };
-        let (numbers, more) = after.split_at_checked(*count as usize)?;
-        if !walk_route(booking, used, numbers) {
+    for numbers in Runs(shown) {
+        if !walk_route(booking, used, numbers?) {
             return None;
         }
         routes = routes.saturating_add(1);
-        rest = more;
     }
-    if rest.is_empty() { Some(routes) } else { None }
+    Some(routes)
 }
 
 // Whether a line on a route was free and is held by the booking, and any other line is as it was.
-fn line_is_right(booking: Booking<'_, '_>, on_route: bool, position: usize) -> bool {
-    let (Some(was), Some(is)) = (booking.before.get(position), booking.after.get(position)) else {
-        return false;
-    };
+fn line_is_right(was: &Line, is: &Line, number: u16, on_route: bool) -> bool {
     if on_route {
-        was.is_free() && is.state == LineState::Held(booking.number)
+        was.is_free() && is.state == LineState::Held(number)
     } else {
         was.state == is.state
     }
 }
 
 fn lines_are_right(booking: Booking<'_, '_>, used: &[bool]) -> bool {
-    if booking.before.len() != booking.after.len() {
-        return false;
-    }
-    for position in 0..booking.before.len() {
-        let Some(on_route) = used.get(position) else {
-            return false;
-        };
-        if !line_is_right(booking, *on_route, position) {
-            return false;
-        }
-    }
-    true
+    let Booking {
+        before,
+        after,
+        number,
+        ..
+    } = booking;
+    before.len() == after.len()
+        && before.iter().zip(after).zip(used).all(|((was, is), on_route)| line_is_right(
+            was, is, number, *on_route,
+        ))
 }
 
 /// How many separate routes a booking shows; none unless each leads from the first place to the second, to no place
@@ -128,49 +122,29 @@ fn lines_are_right(booking: Booking<'_, '_>, used: &[bool]) -> bool {
 pub fn walked(booking: Booking<'_, '_>, shown: &[u16]) -> Option<usize> {
     let mut used = [false; MOST_LINES];
     let routes = walk_all(booking, &mut used, shown)?;
-    if lines_are_right(booking, &used) {
-        Some(routes)
-    } else {
-        None
-    }
+    lines_are_right(booking, &used).then_some(routes)
 }
 
 /// How many lines the booking of a number holds.
 pub fn held_by(lines: &[Line], number: u16) -> usize {
-    let mut count = 0usize;
-    for line in lines {
-        if line.state == LineState::Held(number) {
-            count = count.saturating_add(1);
-        }
-    }
-    count
+    lines
+        .iter()
+        .filter(|line| line.state == LineState::Held(number))
+        .count()
 }
 
 /// How many lines are held.
 pub fn held(lines: &[Line]) -> usize {
-    let mut count = 0usize;
-    for line in lines {
-        if !line.is_free() {
-            count = count.saturating_add(1);
-        }
-    }
-    count
+    lines.iter().filter(|line| !line.is_free()).count()
 }
 
 /// How many free lines cross a side.
 pub fn crossing(lines: &[Line], side: u64) -> usize {
-    let mut count = 0usize;
-    for line in lines {
-        if line.is_free()
-            && contains(side, line.first as usize) != contains(side, line.second as usize)
-        {
-            count = count.saturating_add(1);
-        }
-    }
-    count
-}
-
-/// Whether two tables have the same lines in the same states.
-pub fn same_lines(before: &[Line], after: &[Line]) -> bool {
-    before == after
+    lines
+        .iter()
+        .filter(|line| line.is_free())
+        .filter(|line| {
+            contains(side, usize::from(line.first)) != contains(side, usize::from(line.second))
+        })
+        .count()
 }

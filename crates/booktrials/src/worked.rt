@@ -56,10 +56,10 @@ fn book_in_vain<E: Engine>(rt: &HostRuntime, desk: &mut Desk<E>) -> anyhow::Resu
 fn book_too_many<E: Engine>(rt: &HostRuntime, desk: &mut Desk<E>) -> anyhow::Result<()> {
     let answer = desk.book_routes(10, 20, 4);
     say(rt, "book 10 20 4", answer)?;
-    let right = match answer {
-        Err(Fault::TooFewRoutes(_, side)) => side == SIDE_OF_10 || side == SIDE_OF_10_30_40,
-        _ => false,
-    };
+    let right = matches!(
+        answer,
+        Err(Fault::TooFewRoutes(_, SIDE_OF_10 | SIDE_OF_10_30_40))
+    );
     say_whether(rt, "its side", right)
 }
 
