@@ -9,15 +9,10 @@ use crate::faults::FileFault;
 use crate::header::{Extent, HEADER_BYTES, Header};
 use crate::parts::{Part, Parts};
 use crate::records::{LINE_BYTES, SITE_BYTES};
+use network::{MOST_LINES, MOST_SITES};
 
 /// The most bytes that a file has.
 const MOST_BYTES: usize = 8192;
-
-/// The most records of the site part.
-const MOST_SITES: usize = 64;
-
-/// The most records of the line part.
-const MOST_LINES: usize = 512;
 
 /// The checks of header and parts, in their order.
 pub fn check_file(bytes: &[u8]) -> Result<Parts<'_>, FileFault>
