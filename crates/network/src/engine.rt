@@ -38,6 +38,7 @@ pub trait Engine {
 }
 
 /// Asks an engine for the flow from one place of a network to another; none where they are not two of its places.
+#[tactic(auto, using(crate::proofs::Duality::level_answered))]
 pub fn ask<E: Engine>(
     net: &Network<'_>,
     a: usize,
