@@ -170,6 +170,14 @@ module _ (ls : List Line) (ms : List ℕ) (a d : ℕ) where
   round_as found found' Done ws ws' f w r =
       subst (λ (x : Bool). Round ls ms a d x Done ws') (sym f) (subst (λ (x : List SiteWork). Round ls ms a d found Done x) (sym w) r)
 
+  -- where neither arc has reached anything, nor one before, the records are as they were
+  pub round_idle : (found forth back : Bool) (ws₀ ws ws₁ ws₂ : List SiteWork) (i : ℕ) → ((found || forth) || back) ≡ false →
+      (found ≡ false → ws ≡ ws₀) → ws₁ ≡ seen_after ls d i true ws forth → ws₂ ≡ seen_after ls d i false ws₁ back → ws₂ ≡ ws₀
+  round_idle false false false ws₀ ws ws₁ ws₂ i off old forth_is back_is = back_is ∙ forth_is ∙ old refl
+  round_idle false false true ws₀ ws ws₁ ws₂ i off old forth_is back_is = absurd (true≢false off)
+  round_idle false true back ws₀ ws ws₁ ws₂ i off old forth_is back_is = absurd (true≢false off)
+  round_idle true forth back ws₀ ws ws₁ ws₂ i off old forth_is back_is = absurd (true≢false off)
+
   -- a line whose layers do not add up reaches nothing
   no_reach : (ws : List SiteWork) (i : ℕ) (e : Bool) → adds_up d (line_at ls i) ws ≡ false → reaches ls ms d i e ws ≡ false
   no_reach ws i true off = grind (arith, nat_tests)

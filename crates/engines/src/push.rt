@@ -68,48 +68,32 @@ fn touches(line: &Line, p: usize) -> bool
     line.first as usize == p || line.second as usize == p
 }
 
-// Sends one unit of p's surplus one step down over the line k, if it is one of p's and takes it.
+// Sends one unit of p's surplus one step down over the line k, if it takes it either way.
 fn try_line(net: &Network<'_>, marks: &mut [u8], work: &mut [SiteWork], p: usize, k: usize) -> bool
     requires listed { k < length net.now.lines.now }
     requires in_hand { InHand net.now marks.old work.old }
     requires loaded { Loaded work.old p }
     ensures { TriedLine net.now.lines.now marks.old work.old marks.new work.new p k result }
 {
-    if !touches(&net.lines[k], p) {
-        return false;
-    }
-    if try_push(
-        net,
-        marks,
-        work,
-        p,
-        Way {
-            line: k,
-            from_first: true,
-        },
-    ) {
-        return true;
-    }
-    try_push(
-        net,
-        marks,
-        work,
-        p,
-        Way {
-            line: k,
-            from_first: false,
-        },
-    )
+    let forth = Way {
+        line: k,
+        from_first: true,
+    };
+    let back = Way {
+        line: k,
+        from_first: false,
+    };
+    try_push(net, marks, work, p, forth) || try_push(net, marks, work, p, back)
 }
 
-// Sends one unit of p's surplus one step down, over the first line that takes it.
+// Sends one unit of p's surplus one step down, over the first of p's lines that takes it.
 fn push_from(net: &Network<'_>, marks: &mut [u8], work: &mut [SiteWork], p: usize) -> bool
     requires in_hand { InHand net.now marks.old work.old }
     requires loaded { Loaded work.old p }
     ensures { TriedAll net.now.lines.now marks.old work.old marks.new work.new p result }
 {
-    for k in 0..net.lines.len() {
-        if try_line(net, marks, work, p, k) {
+    for (k, line) in net.lines.iter().enumerate() {
+        if touches(line, p) && try_line(net, marks, work, p, k) {
             return true;
         }
     }
@@ -205,6 +189,7 @@ impl Method for Push {
     }
 }
 
+// `ShortestRoute` has the same lines: one impl for both would need a wrapper type, of which the two names were aliases.
 impl Engine for Push {
     fn flow(
         sites: usize,

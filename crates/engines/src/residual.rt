@@ -3,7 +3,7 @@
 ghost use Rattle.std.specs.Prelude.{◌≡◌, ℕ, ◌<◌, length};
 ghost use Rattle.network.specs.Lines.{line_at};
 ghost use Rattle.network.specs.Flow.{mark_at};
-ghost use Rattle.engines.specs.Arcs.{tail, head, arc, sent_over};
+ghost use Rattle.engines.specs.Arcs.{code, tail, head, arc, sent_over};
 
 use network::Network;
 
@@ -29,15 +29,20 @@ impl Way {
         }
     }
 
+    // The mark of a line that carries this way. Marks stay bytes: they are lent by the engine's caller, and hold anything.
+    fn code(self) -> u8
+        ensures { result ≡ code self.from_first }
+    {
+        if self.from_first { 1 } else { 2 }
+    }
+
     // Whether one more unit can go this way.
     pub fn takes(self, net: &Network<'_>, marks: &[u8]) -> bool
         requires listed { self.line < length net.now.lines.now }
         requires marked { length marks.now ≡ length net.now.lines.now }
         ensures { result ≡ arc net.now.lines.now marks.now self.line self.from_first }
     {
-        let line = &net.lines[self.line];
-        let mark = marks[self.line];
-        line.is_free() && mark != if self.from_first { 1 } else { 2 }
+        net.lines[self.line].is_free() && marks[self.line] != self.code()
     }
 
     // Sends one unit this way: an unused line starts to carry, one that carries the other way stops.
@@ -47,10 +52,8 @@ impl Way {
     {
         marks[self.line] = if marks[self.line] != 0 {
             0
-        } else if self.from_first {
-            1
         } else {
-            2
+            self.code()
         };
     }
 }

@@ -1,6 +1,7 @@
 //! The search outward from a place, over lines that can still carry. Both engines read their side off it.
 
-ghost use Rattle.std.specs.Prelude.{◌≡◌, ℕ, ◌+◌, ◌^◌, ◌<◌, ◌≤◌, false, not, List, length, MatchBool, ◌==◌, slice_set};
+ghost use Rattle.std.specs.Prelude.{◌≡◌, ℕ, ◌+◌, ◌^◌, ◌<◌, ◌≤◌, false, not, List, length, MatchBool, ◌==◌, ◌≢◌, slice_set};
+ghost use Rattle.std.specs.Bool.{OnFalse};
 ghost use Rattle.network.specs.Lines.{Joins};
 ghost use Rattle.network.specs.Sides.{member};
 ghost use Rattle.engines.specs.Hands.{InHand};
@@ -55,7 +56,8 @@ fn may_reach(line: &Line, work: &[SiteWork], layer: u16) -> bool
 fn scan_round(net: &Network<'_>, marks: &[u8], work: &mut [SiteWork], layer: u16) -> bool
     requires in_hand { InHand net.now marks.now work.old }
     requires low { layer + 1 < 2 ^ 16 }
-    ensures { Scanned net.now.lines.now marks.now layer work.old work.new result }
+    ensures scanned { Scanned net.now.lines.now marks.now layer work.old work.new result }
+    ensures idle { OnFalse result (work.new ≡ work.old) }
 {
     let mut found = false;
     for (k, line) in net.lines.iter().enumerate() {
@@ -88,7 +90,8 @@ fn scan_round(net: &Network<'_>, marks: &[u8], work: &mut [SiteWork], layer: u16
 
 fn start_search(work: &mut [SiteWork], a: usize)
     requires { a < length work.old }
-    ensures { (ls : List Line) (ms : List ℕ) → Round ls ms a 1 false (λ k e. ⊥) work.new }
+    ensures begun { (ls : List Line) (ms : List ℕ) → Round ls ms a 1 false (λ k e. ⊥) work.new }
+    ensures others { (q : ℕ) → q ≢ a → seen_at work.new q ≡ 0 }
 {
     work.fill(SiteWork::default());
     note_seen(work, a, 0, 1);
@@ -102,16 +105,13 @@ pub fn search(question: &Question<'_>, marks: &[u8], work: &mut [SiteWork]) -> b
 {
     start_search(work, question.a);
     let mut layer = 1;
-    'rounds: loop {
-        let found = scan_round(&question.net, marks, work, layer);
+    'rounds: while scan_round(&question.net, marks, work, layer) {
         if work[question.b].seen != 0 {
             return true;
         }
-        if !found {
-            return false;
-        }
         layer += 1;
     }
+    false
 }
 
 // The side of the places that the last search has seen. Both engines end with a search that does not reach b, and

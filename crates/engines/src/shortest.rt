@@ -37,6 +37,7 @@ fn augment(question: &Question<'_>, marks: &mut [u8], work: &[SiteWork])
     ensures sound { AllMarked question.now.net.lines.now marks.new }
     ensures sent { Sent question.now.net.lines.now marks.old marks.new question.now.a question.now.b }
 {
+    // Each step needs the marks, and its line is found only at the place that the one before came to: no iterator walks so.
     let mut c = question.b;
     'back: while c != question.a {
         c = step_back(&question.net, marks, work, c);

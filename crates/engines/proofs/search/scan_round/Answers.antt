@@ -1,34 +1,41 @@
-use Rattle.std.proofs.Common.{◌+◌, ◌<◌, false, ◌||◌, length, arith}
-use Rattle.engines.proofs.Rounds.{round_as, round_line, round_pass, round_weaken}
+use Rattle.std.proofs.Common.{◌+◌, ◌<◌, false, ◌||◌, length, sym, refl, ◌∙◌, arith}
+use Rattle.engines.proofs.Rounds.{round_as, round_idle, round_line, round_pass, round_weaken}
 use Rattle.engines.proofs.Arcs.{joins_at}
 use Rattle.engines.proofs.search.scan_round.Goals as goal
 use Rattle.engines.proofs.search.scan_round.Goals.{then-may_reach, else-may_reach}
 
 pub loop-k-init : goal.loop-k-init
-loop-k-init c = λ a r.
-    round_weaken c.args.net.now.lines.now c.args.marks.now a c.args.layer false (λ k e. ⊥) (λ k e. k < 0) c.args.work.now (λ k e lt. omega arith) r
+loop-k-init c = (
+  λ a. round_weaken c.args.net.now.lines.now c.args.marks.now a c.args.layer false (λ k e. ⊥) (λ k e. k < 0) c.args.work.now (λ k e lt. omega arith),
+  λ _. refl,
+)
 
 pub loop-k-preserved : goal.loop-k-preserved
-loop-k-preserved c = λ a r.
+loop-k-preserved c =
     let ls = c.args.net.now.lines.now in
     let ms = c.args.marks.now in
     let d = c.args.layer in
-    let i = c.loop-k.k in
+    let k = c.loop-k.k in
     let found = c.loop-k.found in
     let joins = joins_at c.args.net.now.sites (length c.loop-k.work) ls (omega arith) c.args.net.now.joined in
     elim c.if-may_reach.branch [
       | then-may_reach w ↦
           let forth = w.try_reach-forth in
-          let back = w.try_reach-back in
-          round_as ls ms a d ((found || forth.result) || back.result) c.if-may_reach.found (λ k _. k < i + 1) back.new.work c.if-may_reach.work w.found-is w.work-is
-          (round_line ls ms a d found c.loop-k.work forth.new.work back.new.work i forth.result back.result c.loop-k-test.true joins
-          forth.auto.work (c.loop-k.invariant a r) forth.ensures.answer forth.ensures.after back.ensures.answer back.ensures.after)
-      | else-may_reach w ↦
-          round_as ls ms a d found c.if-may_reach.found (λ k _. k < i + 1) c.loop-k.work c.if-may_reach.work w.found-is w.work-is
-          (round_pass ls ms a d found c.may_reach.result c.loop-k.work i c.loop-k-test.true joins (c.loop-k.invariant a r) c.may_reach.ensures w.if-may_reach.false)
+          let back = w.try_reach-back in (
+            λ a r. round_as ls ms a d ((found || forth.result) || back.result) c.if-may_reach.found (λ j _. j < k + 1) back.new.work c.if-may_reach.work w.found-is w.work-is
+                (round_line ls ms a d found c.loop-k.work forth.new.work back.new.work k forth.result back.result c.loop-k-test.true joins
+                forth.auto.work (c.loop-k.invariant.0 a r) forth.ensures.answer forth.ensures.after back.ensures.answer back.ensures.after),
+            λ off. w.work-is ∙ round_idle ls ms 0 d found forth.result back.result c.args.work.now c.loop-k.work forth.new.work back.new.work k
+                (sym w.found-is ∙ off) c.loop-k.invariant.1 forth.ensures.after back.ensures.after,
+          )
+      | else-may_reach w ↦ (
+        λ a r. round_as ls ms a d found c.if-may_reach.found (λ j _. j < k + 1) c.loop-k.work c.if-may_reach.work w.found-is w.work-is
+            (round_pass ls ms a d found c.may_reach.result c.loop-k.work k c.loop-k-test.true joins (c.loop-k.invariant.0 a r) c.may_reach.ensures w.if-may_reach.false),
+        λ off. w.work-is ∙ c.loop-k.invariant.1 (sym w.found-is ∙ off),
+      )
     ]
 
-pub returns : goal.returns
-returns c = λ a r.
+pub returns-clause-scanned : goal.returns-clause-scanned
+returns-clause-scanned c = λ a r.
     round_weaken c.args.net.now.lines.now c.args.marks.now a c.args.layer c.loop-k.found (λ k e. k < c.loop-k.k)
-    (λ k e. k < length c.args.net.now.lines.now) c.loop-k.work (λ k e lt. omega arith) (c.loop-k.invariant a r)
+    (λ k e. k < length c.args.net.now.lines.now) c.loop-k.work (λ k e lt. omega arith) (c.loop-k.invariant.0 a r)

@@ -1,9 +1,11 @@
-use Rattle.std.proofs.Common.{◌-◌, false, length}
-use Rattle.engines.specs.Search.{Round}
+use Rattle.std.proofs.Common.{◌≡◌, ◌-◌, false, length}
+use Rattle.engines.specs.Search.{seen_at, Round}
 use Rattle.engines.proofs.search.search.Given as goal
 
 abbrev pub invariant-rounds : goal.invariant-rounds
-invariant-rounds l = Round l.question.net.lines.now l.marks l.question.a l.layer false (λ k e. ⊥) l.work
+invariant-rounds l =
+    Round l.question.net.lines.now l.marks l.question.a l.layer false (λ k e. ⊥) l.work
+    × (seen_at l.work l.question.b ≡ 0)
 
 abbrev pub decreases-rounds : goal.decreases-rounds
 decreases-rounds l = length l.initial.work - l.layer
