@@ -1,6 +1,6 @@
 -- One relation for each call: its arguments, its list at entry and at exit, and the answer. An answer from 2 to 16 is the
 -- number of a check of the line book; 254 is no such engine, and 255 no memory.
-use Rattle.std.specs.Prelude.{◌≡◌, ℕ, ◌*◌, ◌/◌, ◌%◌, ◌<◌, ◌≤◌, cond, not, ◌⊎◌, List, [], ◌++◌, map, length, drop, is_some, Some, None, Ok, Err, vec_items, Option, Result, ◌==◌, ◌≢◌, nat_lt, slice_index}
+use Rattle.std.specs.Prelude.{◌≡◌, ℕ, ◌*◌, ◌/◌, ◌%◌, ◌<◌, ◌≤◌, cond, not, ◌⊎◌, List, [], ◌++◌, map, length, drop, is_some, Some, None, Err, vec_items, Option, Result, ◌==◌, ◌≢◌, nat_lt, slice_index}
 use Rattle.network.specs.declared.line.Line.{Line}
 use Rattle.network.specs.declared.line.LineState.TheVariants.{Free}
 use Rattle.network.specs.declared.site.Site.{Site}
@@ -10,9 +10,12 @@ use Rattle.network.specs.Groups.{group_list, group_count}
 use Rattle.netfile.specs.Faults.{number_of}
 use Rattle.netfile.specs.Meaning.{first_fault, sites_in, lines_in}
 use Rattle.netfile.specs.declared.faults.NetworkFault.{NetworkFault}
-use Rattle.book.specs.Calls.{sites_of, lines_of, rows_of, place_in, place, site_number, k_out}
+use Rattle.book.specs.Calls.{sites_of, lines_of, place_in, place, site_number, k_out}
 use Rattle.desk.specs.declared.desk.Desk.{Desk}
 use Rattle.cuttree.specs.Trees.{two_places}
+use Rattle.capi.specs.declared.refusal.Refusal.{Refusal}
+use Rattle.capi.specs.declared.refusal.Refusal.TheVariants.{NoMemory}
+use Rattle.capi.specs.Refusals.{Answered}
 
 -- the first answer that is not 0
 abbrev pub or_then : ℕ → ℕ → ℕ
@@ -33,18 +36,23 @@ no_engine engine = cond (nat_lt 1 engine) 254 0
 abbrev pub site_total : List ℕ → ℕ
 site_total bs = length (sites_in bs)
 
--- a desk with the network of the bytes and no booking, or an answer that is not 0
-pub record Ready {E : Type 0} (bs : List ℕ) (d : Desk E) : Type 0 where
-  pub sound : first_fault bs ≡ None
-  pub sites : sites_of d.book ≡ sites_in bs
-  pub lines : lines_of d.book ≡ lines_in bs
-  pub rows : rows_of d.book ≡ []
-  pub count : d.book.count ≡ 0
+-- a desk on which no network was opened
+pub record Unopened {E : Type 0} (d : Desk E) : Type 0 where
+  pub sites : sites_of d.book ≡ []
   pub passes : vec_items d.passes ≡ []
 
-abbrev pub OpenedAs : {E : Type 0} → List ℕ → Result (Desk E) ℕ → Type 0
-OpenedAs bs (Ok d) = Ready bs d
-OpenedAs bs (Err r) = (0 < r) × ((r ≡ file_answer bs) ⊎ (r ≡ 255))
+-- what a task leaves, by the number of its own first check, what it does and what it keeps: on the network of a file
+abbrev pub OnFile : {A : Type 0} → List ℕ → ℕ → (A → Type 0) → Type 0 → Result A Refusal → Type 0
+OnFile bs check Done Kept r = Answered (or_then (file_answer bs) check) Done Kept r
+
+-- .. over one engine, with as much memory as there is
+abbrev pub OverEngine : {A : Type 0} → List ℕ → ℕ → (A → Type 0) → Type 0 → Result A Refusal → Type 0
+OverEngine bs check Done Kept r = OnFile bs check Done Kept r ⊎ ((r ≡ Err NoMemory) × Kept)
+
+-- .. and over the engine of a number
+abbrev pub OverAny : {A : Type 0} → ℕ → List ℕ → ℕ → (A → Type 0) → Type 0 → Result A Refusal → Type 0
+OverAny engine bs check Done Kept r =
+    Answered (or_then (no_engine engine) (or_then (file_answer bs) check)) Done Kept r ⊎ ((r ≡ Err NoMemory) × (engine ≤ 1) × Kept)
 
 -- the level of two different places, and 0 of others
 abbrev pub level_or_0 : ℕ → List Line → ℕ → ℕ → ℕ
@@ -55,20 +63,12 @@ pub record LevelsWritten (n : ℕ) (ls : List Line) (list list' : List ℕ) : Ty
   pub each : (i : ℕ) → i < n * n → slice_index list' i ≡ level_or_0 n ls (i / n) (i % n)
   pub rest : (i : ℕ) → n * n ≤ i → slice_index list' i ≡ slice_index list i
 
--- what it leaves of these sites and lines
-pub record LevelsFrom (n : ℕ) (ls : List Line) (list list' : List ℕ) (r : ℕ) : Type 0 where
-  pub answer : r ≡ cond (nat_lt (length list) (n * n)) 16 0
-  pub done : r ≡ 0 → LevelsWritten n ls list list'
-  pub kept : (r ≢ 0) → list' ≡ list
+-- the number of the check that denies the levels, or 0
+abbrev pub levels_number : ℕ → ℕ → ℕ
+levels_number n room = cond (nat_lt room (n * n)) 16 0
 
 abbrev pub levels_check : List ℕ → ℕ → ℕ
-levels_check bs room = or_then (file_answer bs) (cond (nat_lt room (site_total bs * site_total bs)) 16 0)
-
--- over one engine
-pub record LevelsOver (bs list list' : List ℕ) (r : ℕ) : Type 0 where
-  pub answer : (r ≡ levels_check bs (length list)) ⊎ (r ≡ 255)
-  pub done : r ≡ 0 → LevelsWritten (site_total bs) (lines_in bs) list list'
-  pub kept : (r ≢ 0) → list' ≡ list
+levels_check bs room = or_then (file_answer bs) (levels_number (site_total bs) room)
 
 -- over the engine of a number
 pub record LevelsTold (engine : ℕ) (bs list list' : List ℕ) (r : ℕ) : Type 0 where
@@ -92,6 +92,10 @@ booking_number ss ls x y k = sites_number ss x y (cond (k_out k) 12 (cond (nat_l
 abbrev pub bookings_number : List Site → List Line → ℕ → ℕ → ℕ → ℕ → ℕ
 bookings_number ss ls x y k turns = cond (turns == 0) 0 (booking_number ss ls x y k)
 
+-- .. or the level afterwards
+abbrev pub bookings_level_number : List Site → List Line → ℕ → ℕ → ℕ → ℕ → ℕ
+bookings_level_number ss ls x y k turns = or_then (bookings_number ss ls x y k turns) (sites_number ss x y 0)
+
 -- a desk without a booking, after so many, and with all lines free
 pub record Idle {E : Type 0} (d : Desk E) (count : ℕ) : Type 0 where
   pub passes : vec_items d.passes ≡ []
@@ -104,21 +108,8 @@ pub record BookedOften {E : Type 0} (d : Desk E) (x y k turns : ℕ) (after : De
   pub sites : sites_of after.book ≡ sites_of d.book
   pub lines : lines_of after.book ≡ lines_of d.book
 
--- .. and the level is told afterwards
-pub record BookingsAt (ss : List Site) (ls : List Line) (x y k turns level level' r : ℕ) : Type 0 where
-  pub answer : r ≡ or_then (bookings_number ss ls x y k turns) (sites_number ss x y 0)
-  pub done : r ≡ 0 → level' ≡ level_between ss ls x y
-  pub kept : (r ≢ 0) → level' ≡ level
-
 abbrev pub bookings_check : List ℕ → ℕ → ℕ → ℕ → ℕ → ℕ
-bookings_check bs x y k turns =
-    or_then (file_answer bs) (or_then (bookings_number (sites_in bs) (lines_in bs) x y k turns) (sites_number (sites_in bs) x y 0))
-
--- over one engine
-pub record BookingsOver (bs : List ℕ) (x y k turns level level' r : ℕ) : Type 0 where
-  pub answer : (r ≡ bookings_check bs x y k turns) ⊎ (r ≡ 255)
-  pub done : r ≡ 0 → level' ≡ level_between (sites_in bs) (lines_in bs) x y
-  pub kept : (r ≢ 0) → level' ≡ level
+bookings_check bs x y k turns = or_then (file_answer bs) (bookings_level_number (sites_in bs) (lines_in bs) x y k turns)
 
 -- over the engine of a number
 pub record BookingsTold (engine : ℕ) (bs : List ℕ) (x y k turns level level' r : ℕ) : Type 0 where
@@ -136,20 +127,8 @@ pub record GroupsWritten (ss : List Site) (ls : List Line) (k count : ℕ) (list
   pub counted : count ≡ group_count (length ss) ls k
   pub entries : list' ≡ map (site_number ss) (group_list (length ss) ls k) ++ drop (length ss) list
 
--- what it leaves of these sites and lines
-pub record GroupsAt (ss : List Site) (ls : List Line) (k count count' : ℕ) (list list' : List ℕ) (r : ℕ) : Type 0 where
-  pub answer : r ≡ groups_number (length ss) k (length list)
-  pub done : r ≡ 0 → GroupsWritten ss ls k count' list list'
-  pub kept : (r ≢ 0) → (count' ≡ count) × (list' ≡ list)
-
 abbrev pub groups_check : List ℕ → ℕ → ℕ → ℕ
 groups_check bs k room = or_then (file_answer bs) (groups_number (site_total bs) k room)
-
--- over one engine
-pub record GroupsOver (bs : List ℕ) (k count count' : ℕ) (list list' : List ℕ) (r : ℕ) : Type 0 where
-  pub answer : (r ≡ groups_check bs k (length list)) ⊎ (r ≡ 255)
-  pub done : r ≡ 0 → GroupsWritten (sites_in bs) (lines_in bs) k count' list list'
-  pub kept : (r ≢ 0) → (count' ≡ count) × (list' ≡ list)
 
 -- over the engine of a number
 pub record GroupsTold (engine : ℕ) (bs : List ℕ) (k count count' : ℕ) (list list' : List ℕ) (r : ℕ) : Type 0 where

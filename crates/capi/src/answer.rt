@@ -1,10 +1,25 @@
-//! What a call answers where no check of the line book applies, or none can be tried. The numbers from 2 to 16 are those
-//! of the checks.
+//! What a program in C is told: 0, or the number of what stood against its call.
 
-pub const DONE: u32 = 0;
+ghost use Rattle.std.specs.Prelude.{◌≡◌, IfOk, OnErr};
+ghost use Rattle.capi.specs.Refusals.{number_told};
 
-pub const SHORT_LIST: u32 = 16;
+use crate::refusal::Refusal;
 
-pub const NO_ENGINE: u32 = 254;
+/// The number of an answer.
+pub fn number_of(answer: Result<(), Refusal>) -> u32
+    ensures { result ≡ number_told answer }
+{
+    answer.map_or_else(|refusal| refusal.number(), |()| 0)
+}
 
-pub const NO_MEMORY: u32 = 255;
+/// Writes the value of an answer, where there is one, and gives its number.
+pub fn tell(answer: Result<usize, Refusal>, value: &mut usize) -> u32
+    ensures number { result ≡ number_told answer }
+    ensures written { IfOk answer (λ v. value.new ≡ v) }
+    ensures kept { OnErr answer (value.new ≡ value.old) }
+{
+    if let Ok(found) = answer {
+        *value = found;
+    }
+    number_of(answer.map(|_| ()))
+}

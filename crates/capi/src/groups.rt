@@ -1,45 +1,34 @@
 //! A group list that is written so many times.
 
-ghost use Rattle.book.specs.Calls.{sites_of, lines_of, GroupsListed};
-ghost use Rattle.capi.specs.Calls.{GroupsAt, GroupsOver};
+ghost use Rattle.std.specs.Prelude.{length};
+ghost use Rattle.book.specs.Calls.{GroupsListed};
+ghost use Rattle.capi.specs.Calls.{groups_number, GroupsWritten};
 
-use crate::answer::DONE;
-use crate::open::open_desk;
+use crate::refusal::Refusal;
+use crate::task::Task;
 use book::{Book, Fault};
+use desk::Desk;
 use network::Engine;
-use std::alloc::Global;
 
-/// The work of the call, over one engine.
-pub fn groups_over<E: Engine>(
-    heap: Global,
-    bytes: &[u8],
-    k: u32,
-    turns: u32,
-    count: &mut usize,
-    list: &mut [u16],
-) -> u32
-    ensures { GroupsOver bytes.now k count.old count.new list.old list.new result }
-{
-    match open_desk::<E>(heap, bytes) {
-        Ok(desk) => {
-            let answer = groups_at(desk.book(), k, turns, count, list);
-            desk.close();
-            answer
-        }
-        Err(answer) => answer,
-    }
+/// Writes the group list at level `k` so many times, at least once, and answers the number of groups.
+#[derive(Clone, Copy)]
+pub struct Groups {
+    pub k: u32,
+    pub turns: u32,
 }
 
-// Writes the group list and the number of groups.
-fn groups_at<E>(book: &Book<E>, k: u32, turns: u32, count: &mut usize, list: &mut [u16]) -> u32
-    ensures { GroupsAt (sites_of book.now) (lines_of book.now) k count.old count.new list.old list.new result }
-{
-    match list_often(book, k, turns, list) {
-        Ok(groups) => {
-            *count = groups;
-            DONE
-        }
-        Err(fault) => u32::from(fault.number()),
+impl Task for Groups {
+    type Entry = u16;
+
+    type Answer = usize;
+
+    ghost check = { λ task ss _ room. groups_number (length ss) task.k room };
+
+    ghost done = { λ task ss ls list list' count. GroupsWritten ss ls task.k count list list' };
+
+    fn run<E: Engine>(&self, desk: &mut Desk<E>, list: &mut [u16]) -> Result<usize, Refusal> {
+        let groups = list_often(desk.book(), self.k, self.turns, list)?;
+        Ok(groups)
     }
 }
 
@@ -47,9 +36,9 @@ fn groups_at<E>(book: &Book<E>, k: u32, turns: u32, count: &mut usize, list: &mu
 fn list_often<E>(book: &Book<E>, k: u32, turns: u32, list: &mut [u16]) -> Result<usize, Fault>
     ensures { GroupsListed book.now k list.old list.new result }
 {
-    let mut groups = book.groups(k, list)?;
-    'again: for _turn in 1..turns {
-        groups = book.groups(k, list)?;
+    let groups = book.groups(k, list)?;
+    for _turn in 1..turns {
+        book.groups(k, list)?;
     }
     Ok(groups)
 }

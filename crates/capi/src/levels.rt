@@ -2,44 +2,40 @@
 
 ghost use Rattle.std.specs.Prelude.{◌≡◌, ℕ, ◌*◌, ◌<◌, ◌≤◌, List, length};
 ghost use Rattle.network.specs.declared.line.Line.{Line};
-ghost use Rattle.cuttree.specs.Trees.{Built, Lawful, TreeOf};
-ghost use Rattle.capi.specs.Calls.{level_or_0, LevelsWritten, LevelsFrom, LevelsOver};
+ghost use Rattle.cuttree.specs.Trees.{Built, TreeOf};
+ghost use Rattle.capi.specs.Calls.{level_or_0, levels_number, LevelsWritten};
 
-use crate::answer::{DONE, SHORT_LIST};
-use crate::open::open_desk;
+use crate::refusal::Refusal;
+use crate::task::Task;
+use book::Fault;
 use cuttree::{Tree, build};
+use desk::Desk;
 use network::{Engine, Line};
-use std::alloc::Global;
 
-/// The work of the call, over one engine.
-pub fn levels_over<E: Engine>(heap: Global, bytes: &[u8], turns: u32, levels: &mut [usize]) -> u32
-    ensures { LevelsOver bytes.now levels.old levels.new result }
-{
-    match open_desk::<E>(heap, bytes) {
-        Ok(desk) => {
-            let book = desk.book();
-            let answer = levels_of::<E>(book.sites().len(), book.lines(), turns, levels);
-            desk.close();
-            answer
-        }
-        Err(answer) => answer,
-    }
+/// Builds the tree so many times, at least once, and writes the level of every two sites.
+#[derive(Clone, Copy)]
+pub struct Levels {
+    pub turns: u32,
 }
 
-// Writes the levels of the lines, where the list has room.
-fn levels_of<E: Engine>(sites: usize, lines: &[Line], turns: u32, levels: &mut [usize]) -> u32
-    requires { Lawful sites lines.now }
-    ensures { LevelsFrom sites lines.now levels.old levels.new result }
-{
-    if levels.len() < sites * sites {
-        return SHORT_LIST;
-    }
-    match build_often::<E>(sites, lines, turns) {
-        Some(tree) => {
-            write_levels(&tree, sites, levels);
-            DONE
+impl Task for Levels {
+    type Entry = usize;
+
+    type Answer = ();
+
+    ghost check = { λ _ ss _ room. levels_number (length ss) room };
+
+    ghost done = { λ _ ss ls list list' _. LevelsWritten (length ss) ls list list' };
+
+    fn run<E: Engine>(&self, desk: &mut Desk<E>, levels: &mut [usize]) -> Result<(), Refusal> {
+        let book = desk.book();
+        let sites = book.sites().len();
+        if levels.len() < sites * sites {
+            return Err(Refusal::Book(Fault::ShortList));
         }
-        None => unreachable(),
+        let tree = build_often::<E>(sites, book.lines(), self.turns);
+        write_levels(&tree.unwrap(), sites, levels);
+        Ok(())
     }
 }
 
@@ -47,11 +43,10 @@ fn levels_of<E: Engine>(sites: usize, lines: &[Line], turns: u32, levels: &mut [
 fn build_often<E: Engine>(sites: usize, lines: &[Line], turns: u32) -> Option<Tree>
     ensures { Built sites lines.now result }
 {
-    let mut tree = build::<E>(sites, lines);
-    'again: for _turn in 1..turns {
-        tree = build::<E>(sites, lines);
+    for _turn in 1..turns {
+        let _ = build::<E>(sites, lines);
     }
-    tree
+    build::<E>(sites, lines)
 }
 
 fn write_levels(tree: &Tree, sites: usize, levels: &mut [usize])
@@ -69,8 +64,5 @@ fn write_levels(tree: &Tree, sites: usize, levels: &mut [usize])
 fn level_or_zero(tree: &Tree, a: usize, b: usize) -> usize
     ensures { (n : ℕ) (ls : List Line) → TreeOf n ls tree.now → result ≡ level_or_0 n ls a b }
 {
-    match tree.level(a, b) {
-        Some(level) => level,
-        None => 0,
-    }
+    tree.level(a, b).unwrap_or(0)
 }

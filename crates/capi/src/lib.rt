@@ -5,18 +5,19 @@
 
 ghost use Rattle.capi.specs.Calls.{LevelsTold, BookingsTold, GroupsTold};
 
-use crate::answer::NO_ENGINE;
-use crate::bookings::{Wish, bookings_over};
-use crate::groups::groups_over;
-use crate::levels::levels_over;
-use engines::{Push, ShortestRoute};
+use crate::answer::{number_of, tell};
+use crate::bookings::Bookings;
+use crate::groups::Groups;
+use crate::levels::Levels;
+use crate::task::with_engine;
 use std::alloc::Global;
 
 mod answer;
 mod bookings;
 mod groups;
 mod levels;
-mod open;
+mod refusal;
+mod task;
 
 /// Builds the tree of a network file `turns` times, at least once, and writes the level of every two sites: that of the
 /// places x and y of n at x n + y, and 0 where x is y.
@@ -30,11 +31,7 @@ pub extern "C" fn dowelsage_levels(
 ) -> u32
     ensures { LevelsTold engine bytes.now levels.old levels.new result }
 {
-    match engine {
-        0 => levels_over::<ShortestRoute>(heap, bytes, turns, levels),
-        1 => levels_over::<Push>(heap, bytes, turns, levels),
-        _ => NO_ENGINE,
-    }
+    number_of(with_engine(engine, heap, bytes, &Levels { turns }, levels))
 }
 
 /// Books `k` routes between two sites of a network file and releases them, `turns` times, and writes the level that the
@@ -52,12 +49,13 @@ pub extern "C" fn dowelsage_bookings(
 ) -> u32
     ensures { BookingsTold engine bytes.now first second k turns level.old level.new result }
 {
-    let wish = Wish { first, second, k };
-    match engine {
-        0 => bookings_over::<ShortestRoute>(heap, bytes, wish, turns, level),
-        1 => bookings_over::<Push>(heap, bytes, wish, turns, level),
-        _ => NO_ENGINE,
-    }
+    let task = Bookings {
+        first,
+        second,
+        k,
+        turns,
+    };
+    tell(with_engine(engine, heap, bytes, &task, &mut []), level)
 }
 
 /// Writes the group list of a network file at level `k` `turns` times, at least once, and the number of groups.
@@ -73,9 +71,8 @@ pub extern "C" fn dowelsage_groups(
 ) -> u32
     ensures { GroupsTold engine bytes.now k count.old count.new list.old list.new result }
 {
-    match engine {
-        0 => groups_over::<ShortestRoute>(heap, bytes, k, turns, count, list),
-        1 => groups_over::<Push>(heap, bytes, k, turns, count, list),
-        _ => NO_ENGINE,
-    }
+    tell(
+        with_engine(engine, heap, bytes, &Groups { k, turns }, list),
+        count,
+    )
 }

@@ -5,8 +5,8 @@ use Rattle.network.specs.Groups.{lowest, group_list}
 use Rattle.book.specs.Calls.{size_of, sites_of, lines_of, site_number}
 use Rattle.capi.proofs.groups.list_often.Goals as goal
 
-pub again-preserved : goal.again-preserved
-again-preserved g c =
+pub loop-turn-preserved : goal.loop-turn-preserved
+loop-turn-preserved g c =
     let b = c.args.book.now in
     let n = size_of b in
     let k = c.args.k in
@@ -16,5 +16,5 @@ again-preserved g c =
     let size : length front ≡ n = length-map (group_list n (lines_of b) k) (site_number (sites_of b)) ∙ length-map-range_with_len (lowest n (lines_of b) k) 0 n in
     let rest : drop n c.groups.new.list ≡ drop n c.args.list.now =
     ap (λ (xs : List ℕ). drop n xs) first.2 ∙ drop_at front (drop n c.args.list.now) n size in
-    let same : drop n c.again.list ≡ drop n c.args.list.now = ap (λ (xs : List ℕ). drop n xs) c.again.invariant.0 ∙ rest in
-    (more.2 ∙ ap (λ (xs : List ℕ). front ++ xs) same ∙ sym first.2, more.1 ∙ sym first.1)
+    let same : drop n c.loop-turn.list ≡ drop n c.args.list.now = ap (λ (xs : List ℕ). drop n xs) c.loop-turn.invariant ∙ rest in
+    more.2 ∙ ap (λ (xs : List ℕ). front ++ xs) same ∙ sym first.2

@@ -1,0 +1,84 @@
+//! Work on the network of a file, over the engine of a number.
+
+ghost use Rattle.std.specs.Prelude.{◌≡◌, ◌≤◌, ℕ, List, length};
+ghost use Rattle.network.specs.declared.line.Line.{Line};
+ghost use Rattle.network.specs.declared.site.Site.{Site};
+ghost use Rattle.netfile.specs.Meaning.{sites_in, lines_in};
+ghost use Rattle.book.specs.Calls.{sites_of, lines_of};
+ghost use Rattle.cuttree.specs.Trees.{Lawful};
+ghost use Rattle.capi.specs.Calls.{Idle, Unopened, OnFile, OverEngine, OverAny};
+ghost use Rattle.capi.specs.Refusals.{Answered};
+
+use crate::refusal::Refusal;
+use desk::Desk;
+use engines::{Push, ShortestRoute};
+use network::Engine;
+use std::alloc::Global;
+
+/// Work on a desk on which a network was just opened, with a list to write to.
+pub trait Task {
+    type Entry;
+
+    type Answer;
+
+    // the number of the first check that denies it on these sites and lines with so much room in the list, or 0
+    ghost check: { Self → List Site → List Line → ℕ → ℕ };
+
+    // what it writes to the list and answers, on these sites and lines
+    ghost done: { Self → List Site → List Line → List Self.Entry → List Self.Entry → Self.Answer → Type 0 };
+
+    fn run<E: Engine>(
+        &self,
+        desk: &mut Desk<E>,
+        list: &mut [Self::Entry],
+    ) -> Result<Self::Answer, Refusal>
+        requires lawful { Lawful (length (sites_of desk.old.book)) (lines_of desk.old.book) }
+        requires idle { Idle desk.old 0 }
+        ensures { Answered (check self.now (sites_of desk.old.book) (lines_of desk.old.book) (length list.old)) (done self.now (sites_of desk.old.book) (lines_of desk.old.book) list.old list.new) (list.new ≡ list.old) result };
+}
+
+/// Does the task over the engine of a number.
+pub fn with_engine<T: Task>(
+    engine: u32,
+    heap: Global,
+    bytes: &[u8],
+    task: &T,
+    list: &mut [T::Entry],
+) -> Result<T::Answer, Refusal>
+    ensures { OverAny engine bytes.now (T.check task.now (sites_in bytes.now) (lines_in bytes.now) (length list.old)) (T.done task.now (sites_in bytes.now) (lines_in bytes.now) list.old list.new) (list.new ≡ list.old) result }
+{
+    match engine {
+        0 => with_desk::<ShortestRoute, T>(heap, bytes, task, list),
+        1 => with_desk::<Push, T>(heap, bytes, task, list),
+        _ => Err(Refusal::NoEngine),
+    }
+}
+
+// Does it at a new desk, and closes that.
+fn with_desk<E: Engine, T: Task>(
+    heap: Global,
+    bytes: &[u8],
+    task: &T,
+    list: &mut [T::Entry],
+) -> Result<T::Answer, Refusal>
+    ensures { OverEngine bytes.now (T.check task.now (sites_in bytes.now) (lines_in bytes.now) (length list.old)) (T.done task.now (sites_in bytes.now) (lines_in bytes.now) list.old list.new) (list.new ≡ list.old) result }
+{
+    let mut desk = Desk::<E>::new(heap)?;
+    let answer = on_file(&mut desk, bytes, task, list);
+    desk.close();
+    answer
+}
+
+// A desk that is lent: where the file is at fault, its owner closes it all the same.
+fn on_file<E: Engine, T: Task>(
+    desk: &mut Desk<E>,
+    bytes: &[u8],
+    task: &T,
+    list: &mut [T::Entry],
+) -> Result<T::Answer, Refusal>
+    requires { Unopened desk.old }
+    ensures { OnFile bytes.now (T.check task.now (sites_in bytes.now) (lines_in bytes.now) (length list.old)) (T.done task.now (sites_in bytes.now) (lines_in bytes.now) list.old list.new) (list.new ≡ list.old) result }
+{
+    desk.open(bytes, 0)?;
+    task.run(desk, list)
+}
