@@ -1,12 +1,14 @@
 //! What each command is answered.
 
 use crate::command::Command;
-use crate::denial::print_denial;
 use crate::opening::open_file;
+use crate::reply::reply;
 use crate::showing::show;
 use desk::Desk;
 use network::Engine;
 use replies::{LineRow, SideRow, SiteRow};
+use std::fmt;
+use std::ops::ControlFlow;
 
 const HELP: &str = "open FILE [MARK]  open a network file on the book (MARK 0 where none is given)
 book A B K        take K separate routes of free lines from site A to site B
@@ -27,10 +29,9 @@ fn take_booking<E: Engine>(
     second: u16,
     k: u32,
 ) -> anyhow::Result<()> {
-    match desk.book_routes(first, second, k) {
-        Ok(number) => show(rt, desk, number, "booked"),
-        Err(fault) => print_denial(rt, desk, fault),
-    }
+    let booked = desk.book_routes(first, second, k);
+    let desk = &*desk;
+    reply(rt, desk, booked, |number| show(rt, desk, number, "booked"))
 }
 
 fn release<E: Engine>(rt: &HostRuntime, desk: &mut Desk<E>, number: u16) -> anyhow::Result<()> {
@@ -43,13 +44,10 @@ fn release<E: Engine>(rt: &HostRuntime, desk: &mut Desk<E>, number: u16) -> anyh
 }
 
 fn print_level<E>(rt: &HostRuntime, desk: &Desk<E>, first: u16, second: u16) -> anyhow::Result<()> {
-    match desk.book().level(first, second) {
-        Ok(level) => {
-            println!(rt; "level {level}")?;
-            Ok(())
-        }
-        Err(fault) => print_denial(rt, desk, fault),
-    }
+    reply(rt, desk, desk.book().level(first, second), |level| {
+        println!(rt; "level {level}")?;
+        Ok(())
+    })
 }
 
 fn print_cut<E: Engine>(
@@ -58,34 +56,43 @@ fn print_cut<E: Engine>(
     first: u16,
     second: u16,
 ) -> anyhow::Result<()> {
-    match desk.book().cut(first, second) {
-        Ok(cut) => {
-            let row = SideRow {
-                level: cut.level,
-                side: cut.side,
-                size: cut.size,
-                sites: desk.book().sites(),
-            };
-            println!(rt; "{row}")?;
-            Ok(())
+    reply(rt, desk, desk.book().cut(first, second), |cut| {
+        let row = SideRow {
+            cut,
+            sites: desk.book().sites(),
+        };
+        println!(rt; "{row}")?;
+        Ok(())
+    })
+}
+
+// The number of groups, and by place the first site of each site's group.
+#[derive(Clone, Copy)]
+struct GroupsRow<'a> {
+    groups: usize,
+    firsts: &'a [u16],
+}
+
+impl fmt::Display for GroupsRow<'_> {
+    fn fmt<W: fmt::Write>(&self, f: &mut fmt::Formatter<W>) -> fmt::Result {
+        let groups = self.groups;
+        write!(f, "{groups} groups:")?;
+        for number in self.firsts {
+            write!(f, " {number}")?;
         }
-        Err(fault) => print_denial(rt, desk, fault),
+        Ok(())
     }
 }
 
 fn print_groups<E>(rt: &HostRuntime, desk: &Desk<E>, k: u32) -> anyhow::Result<()> {
     let mut list = [0u16; 64];
-    match desk.book().groups(k, &mut list) {
-        Ok(groups) => {
-            print!(rt; "{groups} groups:")?;
-            for number in list.iter().take(desk.book().sites().len()) {
-                print!(rt; " {number}")?;
-            }
-            println!(rt; "")?;
-            Ok(())
-        }
-        Err(fault) => print_denial(rt, desk, fault),
-    }
+    let groups = desk.book().groups(k, &mut list);
+    reply(rt, desk, groups, |groups| {
+        let firsts = list.get(..desk.book().sites().len()).unwrap_or_default();
+        let row = GroupsRow { groups, firsts };
+        println!(rt; "{row}")?;
+        Ok(())
+    })
 }
 
 fn print_sites<E>(rt: &HostRuntime, desk: &Desk<E>) -> anyhow::Result<()> {
@@ -107,12 +114,12 @@ fn print_lines<E>(rt: &HostRuntime, desk: &Desk<E>) -> anyhow::Result<()> {
     Ok(())
 }
 
-/// Answers one command; false where the planner is done.
+/// Answers one command; a break where the planner is done.
 pub fn answer<E: Engine>(
     rt: &HostRuntime,
     desk: &mut Desk<E>,
     command: Command<'_>,
-) -> anyhow::Result<bool> {
+) -> anyhow::Result<ControlFlow<()>> {
     match command {
         Command::Open(path, mark) => open_file(rt, desk, path, mark)?,
         Command::Book(first, second, k) => take_booking(rt, desk, first, second, k)?,
@@ -124,7 +131,7 @@ pub fn answer<E: Engine>(
         Command::Sites => print_sites(rt, desk)?,
         Command::Lines => print_lines(rt, desk)?,
         Command::Help => println!(rt; "{HELP}")?,
-        Command::Quit => return Ok(false),
+        Command::Quit => return Ok(ControlFlow::Break(())),
     }
-    Ok(true)
+    Ok(ControlFlow::Continue(()))
 }

@@ -1,9 +1,12 @@
-//! Commands, read from a line of input.
+//! Commands, as the words of a line make them.
 
-ghost use Rattle.std.specs.Prelude.{◌≡◌, ◌<◌, true, length, Some, None, MatchOption, ◌==◌, slice_index};
-ghost use Rattle.dowelsage.specs.Words.{Reads, Silence};
+ghost use Rattle.std.specs.Prelude.{◌≡◌, List, ℕ, Option, Result, Some, None, MatchOption};
+ghost use Rattle.std.specs.Result.{result_ok};
+ghost use Rattle.dowelsage.specs.Words.{Reads};
+ghost use Rattle.dowelsage.specs.Parsed.{parsed_reads};
 
-use std::str::SplitWhitespace;
+use std::fmt;
+use std::str::{FromStr, SplitWhitespace};
 
 /// What a planner can ask for, one command on a line.
 #[derive(Clone, Copy)]
@@ -21,78 +24,94 @@ pub enum Command<'a> {
     Quit,
 }
 
-// The number of a site or a booking.
-fn number(word: Option<&str>) -> Option<u16>
-    ensures { MatchOption word.entry (result ≡ None) (λ t. Reads 16 t.now result) }
-{
-    word?.parse::<u16>().ok()
+/// Why a line of input is no command.
+#[derive(Clone, Copy)]
+pub enum NotUnderstood<'a> {
+    TooLong,
+    NotUtf8,
+    /// An unknown word, too few or too many words, or a number that does not fit.
+    Words(&'a str),
 }
 
-// How many routes, or which level.
-fn level(word: Option<&str>) -> Option<u32>
-    ensures { MatchOption word.entry (result ≡ None) (λ t. Reads 32 t.now result) }
+impl fmt::Display for NotUnderstood<'_> {
+    fn fmt<W: fmt::Write>(&self, f: &mut fmt::Formatter<W>) -> fmt::Result {
+        match self {
+            NotUnderstood::TooLong => write!(f, "not understood: line too long"),
+            NotUnderstood::NotUtf8 => write!(f, "not understood: not UTF-8"),
+            NotUnderstood::Words(line) => write!(f, "not understood: {line}"),
+        }
+    }
+}
+
+// A number that a word writes in decimal digits.
+trait Numeral: FromStr {
+    // holds of a word and what it is read as, none where it writes no such number
+    ghost reads: { List ℕ → Option Self → Type 0 };
+
+    ghost parsed: { (word : List ℕ) (r : Result Self Self.Err) → Self.from_str_gives word r → reads word (result_ok r) };
+}
+
+// The number of a site or a booking.
+impl Numeral for u16 {
+    ghost reads = { Reads 16 };
+
+    ghost parsed = { λ word r p. parsed_reads 16 word r p.0 };
+}
+
+// How many routes, which level, or a mark.
+impl Numeral for u32 {
+    ghost reads = { Reads 32 };
+
+    ghost parsed = { λ word r p. parsed_reads 32 word r p.0 };
+}
+
+// The number that a word writes.
+fn number<T: Numeral + Drop>(word: &str) -> Option<T>
+where
+    T::Err: Drop,
+    ensures { T.reads word.now result }
 {
-    word?.parse::<u32>().ok()
+    word.parse::<T>().ok()
 }
 
 // The mark is 0 where none is given.
 fn mark(word: Option<&str>) -> Option<u32>
     ensures { MatchOption word.entry (result ≡ Some 0) (λ t. Reads 32 t.now result) }
 {
-    match word {
-        Some(text) => text.parse::<u32>().ok(),
-        None => Some(0),
-    }
+    word.map_or(Some(0), |text| number(text))
 }
 
 // The command that a verb and the words after it make.
-fn command_of<'a>(verb: &str, words: &mut SplitWhitespace<'a>) -> Option<Command<'a>> {
-    match verb {
-        "open" => Some(Command::Open(words.next()?, mark(words.next())?)),
-        "book" => Some(Command::Book(
-            number(words.next())?,
-            number(words.next())?,
-            level(words.next())?,
-        )),
-        "show" => Some(Command::Show(number(words.next())?)),
-        "release" => Some(Command::Release(number(words.next())?)),
-        "level" => Some(Command::Level(number(words.next())?, number(words.next())?)),
-        "cut" => Some(Command::Cut(number(words.next())?, number(words.next())?)),
-        "groups" => Some(Command::Groups(level(words.next())?)),
-        "sites" => Some(Command::Sites),
-        "lines" => Some(Command::Lines),
-        "help" => Some(Command::Help),
-        "quit" => Some(Command::Quit),
-        _ => None,
-    }
+fn command_of<'a>(words: &mut SplitWhitespace<'a>) -> Option<Command<'a>> {
+    let command = match words.next()? {
+        "open" => Command::Open(words.next()?, mark(words.next())?),
+        "book" => Command::Book(
+            number(words.next()?)?,
+            number(words.next()?)?,
+            number(words.next()?)?,
+        ),
+        "show" => Command::Show(number(words.next()?)?),
+        "release" => Command::Release(number(words.next()?)?),
+        "level" => Command::Level(number(words.next()?)?, number(words.next()?)?),
+        "cut" => Command::Cut(number(words.next()?)?, number(words.next()?)?),
+        "groups" => Command::Groups(number(words.next()?)?),
+        "sites" => Command::Sites,
+        "lines" => Command::Lines,
+        "help" => Command::Help,
+        "quit" => Command::Quit,
+        _ => return None,
+    };
+    Some(command)
 }
 
-/// Reads one line of input. None where it cannot be read as a command: an unknown word, too few or too many words, or a
-/// number that does not fit.
-pub fn read_command(line: &str) -> Option<Command<'_>> {
-    let mut words = line.split_whitespace();
-    let verb = words.next()?;
-    let read = command_of(verb, &mut words)?;
-    match words.next() {
-        Some(_) => None,
-        None => Some(read),
-    }
-}
+impl<'a> TryFrom<&'a str> for Command<'a> {
+    type Error = NotUnderstood<'a>;
 
-// Whether a text is empty or begins with the sign of a remark.
-fn is_remark(text: &[u8]) -> bool
-    ensures alone { length text.now ≡ 0 → result ≡ true }
-    ensures first { 0 < length text.now → result ≡ (slice_index text.now 0 == 35) }
-{
-    match text {
-        [first, ..] => *first == b'#',
-        [] => true,
+    fn try_from(line: &'a str) -> Result<Command<'a>, NotUnderstood<'a>> {
+        let mut words = line.split_whitespace();
+        match (command_of(&mut words), words.next()) {
+            (Some(command), None) => Ok(command),
+            _ => Err(NotUnderstood::Words(line.trim())),
+        }
     }
-}
-
-/// Whether a line gets no reply: it is empty or a remark.
-pub fn is_silent(line: &str) -> bool
-    ensures { Silence line.now result }
-{
-    is_remark(line.trim_start().as_bytes())
 }

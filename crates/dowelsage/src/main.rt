@@ -2,9 +2,10 @@
 
 mod answers;
 mod command;
-mod denial;
+mod line;
 mod opening;
 mod options;
+mod reply;
 mod session;
 mod showing;
 

@@ -1,7 +1,8 @@
 //! The command line.
 
-use anyhow::anyhow;
-use std::env;
+use std::error::Error;
+use std::str::FromStr;
+use std::{env, fmt};
 
 /// Which flow engine the book is kept over.
 #[derive(Clone, Copy)]
@@ -17,46 +18,57 @@ pub struct Options {
     pub file: Option<String>,
 }
 
-fn method_of(word: &str) -> Option<Method> {
-    match word {
-        "shortest" => Some(Method::Shortest),
-        "push" => Some(Method::Push),
-        _ => None,
+/// Why the command line cannot be followed.
+#[derive(Clone, Copy, Debug)]
+pub enum Misuse {
+    NoSuchEngine,
+    Words,
+}
+
+impl fmt::Display for Misuse {
+    fn fmt<W: fmt::Write>(&self, f: &mut fmt::Formatter<W>) -> fmt::Result {
+        match self {
+            Misuse::NoSuchEngine => write!(f, "--engine wants shortest or push"),
+            Misuse::Words => write!(
+                f,
+                "usage: dowelsage [--engine shortest|push] [NETWORK-FILE]"
+            ),
+        }
     }
 }
 
-// The engine that the word after `--engine` names.
-fn read_method(word: Option<String>) -> anyhow::Result<Method> {
-    let Some(word) = word else {
-        return Err(anyhow!("--engine wants shortest or push"));
-    };
-    match method_of(word.as_str()) {
-        Some(method) => Ok(method),
-        None => Err(anyhow!("--engine wants shortest or push")),
+impl Error for Misuse {}
+
+impl FromStr for Method {
+    type Err = Misuse;
+
+    fn from_str(word: &str) -> Result<Method, Misuse> {
+        match word {
+            "shortest" => Ok(Method::Shortest),
+            "push" => Ok(Method::Push),
+            _ => Err(Misuse::NoSuchEngine),
+        }
     }
 }
 
 /// Reads `[--engine shortest|push] [NETWORK-FILE]`.
 pub fn read_options(rt: &HostRuntime) -> anyhow::Result<Options> {
-    let mut words = env::args(rt)?;
-    let _ = words.next();
+    let mut words = env::args(rt)?.skip(1);
     let mut method = Method::Shortest;
     let mut file = words.next();
-    let mut asked = false;
-    if let Some(word) = &file {
-        asked = word.as_str() == "--engine";
-    }
-    if asked {
-        method = read_method(words.next())?;
+    if file
+        .as_ref()
+        .is_some_and(|word| word.as_str() == "--engine")
+    {
+        let named = words.next().ok_or(Misuse::NoSuchEngine)?;
+        method = named.as_str().parse()?;
         file = words.next();
     }
-    if let Some(word) = &file {
-        if word.as_str().starts_with('-') {
-            return Err(anyhow!("usage: dowelsage [--engine shortest|push] [NETWORK-FILE]"));
-        }
+    let dashed = file
+        .as_ref()
+        .is_some_and(|word| word.as_str().starts_with('-'));
+    if dashed || words.next().is_some() {
+        return Err(Misuse::Words.into());
     }
-    match words.next() {
-        Some(_) => Err(anyhow!("usage: dowelsage [--engine shortest|push] [NETWORK-FILE]")),
-        None => Ok(Options { method, file }),
-    }
+    Ok(Options { method, file })
 }

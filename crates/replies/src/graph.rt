@@ -2,8 +2,8 @@
 
 ghost use Rattle.std.specs.Prelude.{◌≡◌, ◌%◌};
 
-use crate::callsign::{unpadded, write_label_byte};
-use crate::rows::site_number;
+use crate::callsign::LabelSign;
+use crate::rows::LineRow;
 use network::{Line, LineState, Site};
 use std::fmt;
 
@@ -13,32 +13,42 @@ const LOOKS: &str =
   node [shape=box, style=\"rounded,filled\", color=\"#55606a\", fillcolor=\"#ffffff\", fontname=\"Helvetica\", fontsize=12];
   edge [color=\"#8a949c\", fontname=\"Helvetica\", fontsize=10, fontcolor=\"#55606a\"];";
 
-/// A network, and for each place the number of the first site of its group, which is looked at where groups are wanted.
+// Dark enough to be read on white.
+const COLOURS: [&str; 6] = [
+    "#8a5a2b", "#1f5fa8", "#c8500a", "#2a7d4f", "#7b4ea3", "#b3245a",
+];
+
+/// A network, and where groups are wanted for each place the number of the first site of its group.
 #[derive(Clone, Copy)]
 pub struct Graph<'a> {
     pub sites: &'a [Site],
     pub lines: &'a [Line],
-    pub firsts: &'a [u16],
-    pub grouped: bool,
+    pub groups: Option<&'a [u16]>,
 }
 
 impl fmt::Display for Graph<'_> {
     fn fmt<W: fmt::Write>(&self, f: &mut fmt::Formatter<W>) -> fmt::Result {
         writeln!(f, "graph network {{")?;
         writeln!(f, "{LOOKS}")?;
-        if self.grouped {
-            write_clusters(f, self.sites, self.firsts)?;
-        } else {
-            write_nodes(f, self.sites)?;
+        match self.groups {
+            Some(firsts) => write_clusters(f, self.sites, firsts)?,
+            None => write_nodes(f, self.sites)?,
         }
-        write_edges(f, self.sites, self.lines)?;
+        for line in self.lines {
+            let edge = Edge(LineRow {
+                line: *line,
+                sites: self.sites,
+            });
+            writeln!(f, "{edge}")?;
+        }
         write!(f, "}}")
     }
 }
 
 fn write_nodes<W: fmt::Write>(f: &mut fmt::Formatter<W>, sites: &[Site]) -> fmt::Result {
     for site in sites {
-        write_node(f, *site, "  ")?;
+        let node = Node(*site);
+        writeln!(f, "  {node}")?;
     }
     Ok(())
 }
@@ -49,87 +59,79 @@ fn write_clusters<W: fmt::Write>(
     sites: &[Site],
     firsts: &[u16],
 ) -> fmt::Result {
-    for (site, first) in sites.iter().zip(firsts.iter()) {
+    for (site, first) in sites.iter().zip(firsts) {
         if site.number == *first {
-            write_cluster(f, sites, firsts, *first)?;
+            let cluster = Cluster {
+                group: *first,
+                sites,
+                firsts,
+            };
+            writeln!(f, "{cluster}")?;
         }
     }
     Ok(())
 }
 
-fn write_cluster<W: fmt::Write>(
-    f: &mut fmt::Formatter<W>,
-    sites: &[Site],
-    firsts: &[u16],
+// The sites of one group.
+#[derive(Clone, Copy)]
+struct Cluster<'a> {
     group: u16,
-) -> fmt::Result {
-    writeln!(f, "  subgraph cluster_{group} {{")?;
-    writeln!(f, "    label=\"group {group}\";")?;
-    for (site, first) in sites.iter().zip(firsts.iter()) {
-        if *first == group {
-            write_node(f, *site, "    ")?;
+    sites: &'a [Site],
+    firsts: &'a [u16],
+}
+
+impl fmt::Display for Cluster<'_> {
+    fn fmt<W: fmt::Write>(&self, f: &mut fmt::Formatter<W>) -> fmt::Result {
+        let group = self.group;
+        writeln!(f, "  subgraph cluster_{group} {{")?;
+        writeln!(f, "    label=\"group {group}\";")?;
+        for (site, first) in self.sites.iter().zip(self.firsts) {
+            if *first == group {
+                let node = Node(*site);
+                writeln!(f, "    {node}")?;
+            }
         }
+        write!(f, "  }}")
     }
-    writeln!(f, "  }}")
 }
 
-fn write_node<W: fmt::Write>(f: &mut fmt::Formatter<W>, site: Site, indent: &str) -> fmt::Result {
-    let number = site.number;
-    let sign = unpadded(&site.call_sign);
-    write!(f, "{indent}{number} [label=\"{number}")?;
-    if !sign.is_empty() {
-        write!(f, "\\n")?;
+// A site with its number and its call sign.
+#[derive(Clone, Copy)]
+struct Node(Site);
+
+impl fmt::Display for Node {
+    fn fmt<W: fmt::Write>(&self, f: &mut fmt::Formatter<W>) -> fmt::Result {
+        let number = self.0.number;
+        let sign = LabelSign(&self.0.call_sign);
+        write!(f, "{number} [label=\"{number}{sign}\"];")
     }
-    for byte in sign {
-        write_label_byte(f, *byte)?;
-    }
-    writeln!(f, "\"];")
 }
 
-fn write_edges<W: fmt::Write>(
-    f: &mut fmt::Formatter<W>,
-    sites: &[Site],
-    lines: &[Line],
-) -> fmt::Result {
-    for line in lines {
-        let number = line.number;
-        let first = site_number(sites, line.first);
-        let second = site_number(sites, line.second);
+// A line with its number. A free line is plain; a held one is named by its booking and has its colour.
+#[derive(Clone, Copy)]
+struct Edge<'a>(LineRow<'a>);
+
+impl fmt::Display for Edge<'_> {
+    fn fmt<W: fmt::Write>(&self, f: &mut fmt::Formatter<W>) -> fmt::Result {
+        let number = self.0.line.number;
+        let (first, second) = self.0.ends();
         write!(f, "  {first} -- {second} [label=\"{number}")?;
-        write_state(f, line.state)?;
-    }
-    Ok(())
-}
-
-// The rest of an edge. A free line is plain; a held one is named by its booking and has its colour.
-fn write_state<W: fmt::Write>(f: &mut fmt::Formatter<W>, state: LineState) -> fmt::Result {
-    match state {
-        LineState::Free => writeln!(f, "\"];"),
-        LineState::Held(booking) => {
-            let colour = colour_of(tint(booking));
-            writeln!(
-                f,
-                ": booking {booking}\", color=\"{colour}\", fontcolor=\"{colour}\", penwidth=2];"
-            )
+        match self.0.line.state {
+            LineState::Free => write!(f, "\"];"),
+            LineState::Held(booking) => {
+                let colour = COLOURS[tint(booking)];
+                write!(
+                    f,
+                    ": booking {booking}\", color=\"{colour}\", fontcolor=\"{colour}\", penwidth=2];"
+                )
+            }
         }
     }
 }
 
-// Which of the six colours a booking has: two bookings whose numbers follow each other never share one.
-fn tint(booking: u16) -> u16
+// Which of the colours a booking has: two bookings whose numbers follow each other never share one.
+fn tint(booking: u16) -> usize
     ensures { result ≡ booking % 6 }
 {
-    booking % 6
-}
-
-// Dark enough to be read on white.
-fn colour_of(tint: u16) -> &'static str {
-    match tint {
-        0 => "#8a5a2b",
-        1 => "#1f5fa8",
-        2 => "#c8500a",
-        3 => "#2a7d4f",
-        4 => "#7b4ea3",
-        _ => "#b3245a",
-    }
+    booking as usize % COLOURS.len()
 }

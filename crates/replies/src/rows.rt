@@ -1,30 +1,30 @@
 //! The rows of which replies are made.
 
-use crate::callsign::write_byte;
-use book::{Fault, Layer};
+use crate::callsign::CallSign;
+use book::{Cut, Fault, Layer};
 use network::side::contains;
 use network::{Line, LineState, Site};
 use std::fmt;
 
-/// The sites of a side, by rising place.
+/// A cut as it is printed: its level, and the sites of its side by rising place.
 #[derive(Clone, Copy)]
 pub struct SideRow<'a> {
-    pub level: usize,
-    pub side: u64,
-    pub size: u32,
+    pub cut: Cut,
     pub sites: &'a [Site],
 }
 
 impl fmt::Display for SideRow<'_> {
     fn fmt<W: fmt::Write>(&self, f: &mut fmt::Formatter<W>) -> fmt::Result {
-        let level = self.level;
-        let size = self.size;
+        let Cut { level, side, size } = self.cut;
         write!(f, "level {level}, side of {size}:")?;
-        for (place, site) in self.sites.iter().enumerate() {
-            if contains(self.side, place) {
-                let number = site.number;
-                write!(f, " {number}")?;
-            }
+        for (_, site) in self
+            .sites
+            .iter()
+            .enumerate()
+            .filter(|(place, _)| contains(side, *place))
+        {
+            let number = site.number;
+            write!(f, " {number}")?;
         }
         Ok(())
     }
@@ -59,9 +59,11 @@ impl fmt::Display for Denial<'_> {
             Fault::NoSuchSite(site) => write!(f, ": site {site}"),
             Fault::TooFewRoutes(level, side) => {
                 let row = SideRow {
-                    level,
-                    side,
-                    size: side.count_ones(),
+                    cut: Cut {
+                        level,
+                        side,
+                        size: side.count_ones(),
+                    },
                     sites: self.sites,
                 };
                 write!(f, ": {row}")
@@ -78,19 +80,8 @@ pub struct SiteRow(pub Site);
 impl fmt::Display for SiteRow {
     fn fmt<W: fmt::Write>(&self, f: &mut fmt::Formatter<W>) -> fmt::Result {
         let number = self.0.number;
-        write!(f, "{number} ")?;
-        for byte in self.0.call_sign {
-            write_byte(f, byte)?;
-        }
-        Ok(())
-    }
-}
-
-/// The number of the site at a place.
-pub(crate) fn site_number(sites: &[Site], place: u8) -> u16 {
-    match sites.get(place as usize) {
-        Some(site) => site.number,
-        None => 0,
+        let sign = CallSign(&self.0.call_sign);
+        write!(f, "{number} {sign}")
     }
 }
 
@@ -101,11 +92,25 @@ pub struct LineRow<'a> {
     pub sites: &'a [Site],
 }
 
+// The number of the site at a place.
+fn site_number(sites: &[Site], place: u8) -> u16 {
+    sites.get(place as usize).map_or(0, |site| site.number)
+}
+
+impl LineRow<'_> {
+    /// The numbers of its two sites.
+    pub(crate) fn ends(&self) -> (u16, u16) {
+        (
+            site_number(self.sites, self.line.first),
+            site_number(self.sites, self.line.second),
+        )
+    }
+}
+
 impl fmt::Display for LineRow<'_> {
     fn fmt<W: fmt::Write>(&self, f: &mut fmt::Formatter<W>) -> fmt::Result {
         let number = self.line.number;
-        let first = site_number(self.sites, self.line.first);
-        let second = site_number(self.sites, self.line.second);
+        let (first, second) = self.ends();
         write!(f, "{number}: {first} - {second} ")?;
         match self.line.state {
             LineState::Free => write!(f, "free"),
@@ -123,16 +128,18 @@ pub struct RouteRow<'a> {
     pub sites: &'a [Site],
 }
 
-// The site that the line of a number leads to from another.
-fn far_end(lines: &[Line], sites: &[Site], number: u16, from: u16) -> u16 {
-    for line in lines {
-        if line.number == number {
-            let first = site_number(sites, line.first);
-            let second = site_number(sites, line.second);
-            return if first == from { second } else { first };
-        }
+impl RouteRow<'_> {
+    // The site that the line of a number leads to from another.
+    fn far_end(&self, number: u16, from: u16) -> u16 {
+        let sites = self.sites;
+        self.lines
+            .iter()
+            .find(|line| line.number == number)
+            .map_or(from, |line| {
+                let (first, second) = LineRow { line: *line, sites }.ends();
+                if first == from { second } else { first }
+            })
     }
-    from
 }
 
 impl fmt::Display for RouteRow<'_> {
@@ -140,7 +147,7 @@ impl fmt::Display for RouteRow<'_> {
         let mut here = self.first;
         write!(f, "  {here}")?;
         for number in self.numbers {
-            here = far_end(self.lines, self.sites, *number, here);
+            here = self.far_end(*number, here);
             write!(f, " -{number}- {here}")?;
         }
         Ok(())

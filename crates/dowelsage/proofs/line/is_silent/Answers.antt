@@ -1,7 +1,7 @@
 use Rattle.std.proofs.Common.{◌≡◌, ℕ, ◌<◌, true, eqb, List, length, get_or, drop, subst}
 use Rattle.std.specs.Char.{is_not_whitespace}
 use Rattle.std.specs.Str.{EmptyOrStartsWithPassing}
-use Rattle.dowelsage.proofs.command.is_silent.Goals as goal
+use Rattle.dowelsage.proofs.line.is_silent.Goals as goal
 
 pub returns : goal.returns
 returns c =
