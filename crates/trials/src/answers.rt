@@ -1,17 +1,10 @@
 //! Asks an engine, and looks at its answer.
 
-use crate::taking::{Taken, Taking, take};
+use crate::old::{Old, is_old};
+use crate::taking::{NotTaken, Taking, take};
 use network::{Engine, Line, SiteWork, side};
-
-/// What stands in marks and work table before a call.
-const OLD: u8 = 7;
-
-const OLD_WORK: SiteWork = SiteWork {
-    parent: 7,
-    seen: 7,
-    height: 7,
-    surplus: 7,
-};
+use std::error::Error;
+use std::fmt;
 
 /// More marks, and more records of the work table, than an engine needs.
 pub const MARKS: usize = 520;
@@ -28,88 +21,88 @@ pub struct Question {
     pub work: usize,
 }
 
-/// What an engine answered, and what was found of it.
+/// What an engine answers: how many routes there are, and a side that shows that there are no more.
 #[derive(Clone, Copy)]
-pub struct Asked {
+pub struct Flow {
     pub value: usize,
-    pub cut: u64,
-    pub finding: Finding,
+    pub side: u64,
 }
 
-/// What is wrong with an answer, or that it was none or holds.
-#[derive(Clone, Copy, PartialEq)]
-pub enum Finding {
+/// What an engine answered, none where it declined, and what was found of it.
+#[derive(Clone, Copy)]
+pub struct Asked {
+    pub flow: Option<Flow>,
+    pub finding: Result<(), Unsound>,
+}
+
+/// Why an answer does not hold: there is none, or something is wrong with it.
+#[derive(Debug, Clone, Copy, PartialEq, Eq)]
+pub enum Unsound {
     Declined,
+    WroteInVain,
     MarksPast,
     NotParted,
     Outside,
     OtherCount,
     NoRoutes,
-    Holds,
 }
 
-impl Finding {
-    pub fn text(self) -> &'static str {
+impl fmt::Display for Unsound {
+    fn fmt<W: fmt::Write>(&self, f: &mut fmt::Formatter<W>) -> fmt::Result {
         match self {
-            Finding::Declined => "declined",
-            Finding::MarksPast => "marks past the last line are changed",
-            Finding::NotParted => "the side does not part the two",
-            Finding::Outside => "the side passes the network",
-            Finding::OtherCount => "another number of lines cross the side",
-            Finding::NoRoutes => "the routes do not walk",
-            Finding::Holds => "sides hold, routes walk",
+            Unsound::Declined => write!(f, "declined"),
+            Unsound::WroteInVain => write!(f, "declined, but marks or work are changed"),
+            Unsound::MarksPast => write!(f, "marks past the last line are changed"),
+            Unsound::NotParted => write!(f, "the side does not part the two"),
+            Unsound::Outside => write!(f, "the side passes the network"),
+            Unsound::OtherCount => write!(f, "another number of lines cross the side"),
+            Unsound::NoRoutes => write!(f, "the routes do not walk"),
         }
     }
+}
+
+impl Error for Unsound {}
+
+impl From<NotTaken> for Unsound {
+    fn from(_fault: NotTaken) -> Unsound {
+        Unsound::NoRoutes
+    }
+}
+
+fn crosses(line: &Line, cut: u64) -> bool {
+    side::contains(cut, usize::from(line.first)) != side::contains(cut, usize::from(line.second))
 }
 
 // How many free lines cross the side.
 fn crossing(lines: &[Line], cut: u64) -> usize {
-    let mut count = 0usize;
-    for line in lines {
-        let parted = side::contains(cut, line.first as usize)
-            != side::contains(cut, line.second as usize);
-        if line.is_free() && parted {
-            count = count.saturating_add(1);
-        }
-    }
-    count
-}
-
-// Whether the marks from a position on are as they were.
-fn is_old(marks: &[u8], from: usize) -> bool {
-    for mark in marks.iter().skip(from) {
-        if *mark != OLD {
-            return false;
-        }
-    }
-    true
-}
-
-fn is_old_work(work: &[SiteWork]) -> bool {
-    for record in work {
-        if *record != OLD_WORK {
-            return false;
-        }
-    }
-    true
+    lines
+        .iter()
+        .filter(|line| line.is_free() && crosses(line, cut))
+        .count()
 }
 
 // The side is to hold a, not b, only places of the network, and to be crossed by `value` free lines.
-fn look_at_side(lines: &[Line], question: Question, value: usize, cut: u64) -> Finding {
+fn look_at_side(lines: &[Line], question: Question, flow: Flow) -> Result<(), Unsound> {
+    let Flow { value, side: cut } = flow;
     if !side::contains(cut, question.a) || side::contains(cut, question.b) {
-        return Finding::NotParted;
+        return Err(Unsound::NotParted);
     }
     if side::intersection(cut, side::all_below(question.sites)) != cut {
-        return Finding::Outside;
+        return Err(Unsound::Outside);
     }
     if crossing(lines, cut) != value {
-        return Finding::OtherCount;
+        return Err(Unsound::OtherCount);
     }
-    Finding::Holds
+    Ok(())
 }
 
-// Whether as many routes as the value can be taken out of the marks, and walk.
-fn routes_walk(lines: &[Line], marks: &[u8], question: Question, value: usize) -> bool {
+// Takes as many routes as the value out of the marks, and walks them.
+fn take_all(
+    lines: &[Line],
+    marks: &[u8],
+    question: Question,
+    value: usize,
+) -> Result<(), NotTaken> {
     let Question { sites, a, b, .. } = question;
     let taking = Taking {
         a,
@@ -118,48 +111,55 @@ fn routes_walk(lines: &[Line], marks: &[u8], question: Question, value: usize) -
         k: value,
         room: 1024,
     };
-    take(sites, lines, marks, taking) == Taken::Walk
+    take(sites, lines, marks, taking)
 }
 
 // Looks at an answer of the engine, and at what stands in the marks after it.
-fn look_at(lines: &[Line], marks: &[u8], question: Question, value: usize, cut: u64) -> Finding {
+fn look_at(lines: &[Line], marks: &[u8], question: Question, flow: Flow) -> Result<(), Unsound> {
     if !is_old(marks, lines.len()) {
-        return Finding::MarksPast;
+        return Err(Unsound::MarksPast);
     }
-    match look_at_side(lines, question, value, cut) {
-        Finding::Holds if !routes_walk(lines, marks, question, value) => Finding::NoRoutes,
-        finding => finding,
-    }
+    look_at_side(lines, question, flow)?;
+    take_all(lines, marks, question, flow.value)?;
+    Ok(())
 }
 
-// Asks the engine with these two lists. It declines where its answer is nothing and they are unchanged.
+// The engine's answer; where it declines, it answers nothing.
+fn flow_of<E: Engine>(
+    lines: &[Line],
+    question: Question,
+    marks: &mut [u8],
+    work: &mut [SiteWork],
+) -> Option<Flow> {
+    let Question { sites, a, b, .. } = question;
+    let (value, side) = E::flow(sites, lines, a, b, marks, work);
+    if value == 0 && side == 0 {
+        return None;
+    }
+    Some(Flow { value, side })
+}
+
+// Asks the engine with these two lists, which it leaves as they are where it declines.
 fn ask_with<E: Engine>(
     lines: &[Line],
     question: Question,
     marks: &mut [u8],
     work: &mut [SiteWork],
 ) -> Asked {
-    let Question { sites, a, b, .. } = question;
-    let (value, cut) = E::flow(sites, lines, a, b, marks, work);
-    if cut == 0 && value == 0 && is_old(marks, 0) && is_old_work(work) {
-        return Asked {
-            value,
-            cut,
-            finding: Finding::Declined,
-        };
-    }
-    Asked {
-        value,
-        cut,
-        finding: look_at(lines, marks, question, value, cut),
-    }
+    let flow = flow_of::<E>(lines, question, marks, work);
+    let finding = match flow {
+        Some(flow) => look_at(lines, marks, question, flow),
+        None if is_old(marks, 0) && is_old(work, 0) => Err(Unsound::Declined),
+        None => Err(Unsound::WroteInVain),
+    };
+    Asked { flow, finding }
 }
 
 /// Asks the engine, with old numbers in marks and work table.
 pub fn ask<E: Engine>(lines: &[Line], question: Question) -> Asked {
-    let mut marks = [OLD; MARKS];
-    let mut work = [OLD_WORK; WORK];
-    let lent_marks = &mut marks[0..question.marks.min(MARKS)];
-    let lent_work = &mut work[0..question.work.min(WORK)];
+    let mut marks = [u8::OLD; MARKS];
+    let mut work = [SiteWork::OLD; WORK];
+    let lent_marks = &mut marks[..question.marks.min(MARKS)];
+    let lent_work = &mut work[..question.work.min(WORK)];
     ask_with::<E>(lines, question, lent_marks, lent_work)
 }

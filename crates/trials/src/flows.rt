@@ -1,36 +1,45 @@
 //! Asks both engines, and prints their answers.
 
-use crate::answers::{Asked, MARKS, Question, WORK, ask};
+use crate::answers::{Asked, Flow, MARKS, Question, Unsound, WORK, ask};
 use crate::networks::Network;
 use anyhow::anyhow;
 use engines::{Push, ShortestRoute};
 use network::side;
 use std::io;
 
+// What is printed of an engine that declined.
+const NO_FLOW: Flow = Flow { value: 0, side: 0 };
+
 // The value, and the sites of the side by rising place.
-fn print_answer(rt: &HostRuntime, net: &Network, engine: &str, asked: Asked) -> io::Result<()> {
-    let value = asked.value;
-    let size = side::size(asked.cut);
+fn print_answer(rt: &HostRuntime, net: &Network, engine: &str, asked: &Asked) -> io::Result<()> {
+    let Flow { value, side } = asked.flow.unwrap_or(NO_FLOW);
+    let size = side::size(side);
     print!(rt; " {engine} {value}, side of {size}:")?;
     for (place, site) in net.sites.iter().enumerate() {
-        if side::contains(asked.cut, place) {
+        if side::contains(side, place) {
             print!(rt; " {site}")?;
         }
     }
     print!(rt; ";")
 }
 
+fn print_finding(rt: &HostRuntime, finding: Result<(), Unsound>) -> io::Result<()> {
+    match finding {
+        Ok(()) => print!(rt; " sides hold, routes walk"),
+        Err(fault) => print!(rt; " {fault}"),
+    }
+}
+
 // Both answers, and what was found of them.
 fn print_answers(rt: &HostRuntime, net: &Network, question: Question) -> anyhow::Result<()> {
     let shortest = ask::<ShortestRoute>(&net.lines, question);
     let push = ask::<Push>(&net.lines, question);
-    print_answer(rt, net, "shortest", shortest)?;
-    print_answer(rt, net, "push", push)?;
-    let found = shortest.finding.text();
-    print!(rt; " {found}")?;
+    print_answer(rt, net, "shortest", &shortest)?;
+    print_answer(rt, net, "push", &push)?;
+    print_finding(rt, shortest.finding)?;
     if push.finding != shortest.finding {
-        let other = push.finding.text();
-        print!(rt; ", push: {other}")?;
+        print!(rt; ", push:")?;
+        print_finding(rt, push.finding)?;
     }
     println!(rt)?;
     Ok(())

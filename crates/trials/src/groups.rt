@@ -1,54 +1,42 @@
 //! The groups that both trees of a network tell.
 
 use crate::networks::Network;
+use crate::old::{Old, is_old};
 use crate::trees::{Trees, grow};
-use anyhow::anyhow;
+use anyhow::{Context, anyhow, ensure};
 use cuttree::Tree;
 use std::io;
 
-/// What a list holds before it is written.
-const OLD: u16 = 7777;
-
-/// A group list, by places, in a list that is longer than it needs.
-#[derive(Clone, Copy)]
+/// How many groups there are, and their list by places, which is longer than it needs.
+#[derive(Clone, Copy, PartialEq, Eq)]
 struct Groups {
     count: usize,
     places: [u16; 70],
 }
 
 fn groups_of(tree: &Tree, k: u32) -> anyhow::Result<Groups> {
-    let mut places = [OLD; 70];
-    let Some(count) = tree.groups(k, &mut places) else {
-        return Err(anyhow!("no groups"));
-    };
+    let mut places = [u16::OLD; 70];
+    let count = tree.groups(k, &mut places).context("no groups")?;
     Ok(Groups { count, places })
 }
 
 // The number of the site at a place; the old number where the list was not written.
 fn site_at(net: &Network, place: u16) -> u16 {
-    net.sites.get(place as usize).copied().unwrap_or(OLD)
-}
-
-// Whether the list past the last place is as it was.
-fn keeps_rest(groups: &Groups, sites: usize) -> bool {
-    for place in groups.places.iter().skip(sites) {
-        if *place != OLD {
-            return false;
-        }
-    }
-    true
+    net.sites
+        .get(usize::from(place))
+        .copied()
+        .unwrap_or(u16::OLD)
 }
 
 // Both engines' groups at k, which have to be the same.
 fn agreed(trees: &Trees, k: u32, sites: usize) -> anyhow::Result<Groups> {
     let groups = groups_of(&trees.shortest, k)?;
     let other = groups_of(&trees.push, k)?;
-    if groups.count != other.count || groups.places != other.places {
-        return Err(anyhow!("the groups differ"));
-    }
-    if !keeps_rest(&groups, sites) {
-        return Err(anyhow!("the list past the last place is changed"));
-    }
+    ensure!(groups == other, "the groups differ");
+    ensure!(
+        is_old(&groups.places, sites),
+        "the list past the last place is changed"
+    );
     Ok(groups)
 }
 

@@ -6,10 +6,13 @@ use std::io;
 
 // The level of two places, or a dash where it is asked of one place and itself.
 fn print_level(rt: &HostRuntime, trees: &Trees, a: usize, b: usize) -> io::Result<()> {
-    match (trees.shortest.level(a, b), trees.push.level(a, b)) {
-        (None, None) => print!(rt; " -"),
-        (Some(level), Some(other)) if level == other => print!(rt; " {level}"),
-        _ => print!(rt; " differ"),
+    let level = trees.shortest.level(a, b);
+    if level != trees.push.level(a, b) {
+        return print!(rt; " differ");
+    }
+    match level {
+        Some(level) => print!(rt; " {level}"),
+        None => print!(rt; " -"),
     }
 }
 

@@ -9,6 +9,7 @@ mod flows;
 mod groups;
 mod levels;
 mod networks;
+mod old;
 mod taking;
 mod trees;
 mod walks;

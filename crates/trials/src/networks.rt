@@ -24,41 +24,28 @@ impl Network {
 
     /// Whether the lines are those of the network whose cases are proved.
     pub fn is_worked(&self) -> bool {
-        let worked = worked_lines();
-        let worked: &[Line] = &worked;
-        self.lines.as_slice() == worked
+        self.lines.as_slice() == worked_lines().as_slice()
     }
 
     /// Has the lines at these positions held by booking 1.
     pub fn hold(&mut self, positions: &[usize]) {
         for position in positions {
-            hold_line(&mut self.lines, *position);
+            if let Some(line) = self.lines.get_mut(*position) {
+                line.state = LineState::Held(1);
+            }
         }
-    }
-}
-
-fn hold_line(lines: &mut [Line], position: usize) {
-    if position < lines.len() {
-        lines[position].state = LineState::Held(1);
     }
 }
 
 fn sites_of(heap: Global, file: &NetworkFile) -> Result<Vec<u16>, AllocError> {
-    let mut sites = Vec::new(heap);
-    for place in 0..file.site_count() {
-        if let Some(site) = file.site(place) {
-            sites.push(site.number)?;
-        }
-    }
-    Ok(sites)
+    (0..file.site_count())
+        .filter_map(|place| file.site(place))
+        .map(|site| site.number)
+        .collect(heap)
 }
 
 fn lines_of(heap: Global, file: &NetworkFile) -> Result<Vec<Line>, AllocError> {
-    let mut lines = Vec::new(heap);
-    for position in 0..file.line_count() {
-        if let Some(line) = file.line(position) {
-            lines.push(line)?;
-        }
-    }
-    Ok(lines)
+    (0..file.line_count())
+        .filter_map(|position| file.line(position))
+        .collect(heap)
 }

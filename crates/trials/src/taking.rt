@@ -1,32 +1,35 @@
 //! Takes routes out of marks, and walks them.
 
 use crate::networks::Network;
+use crate::old::{Old, is_old};
 use crate::walks::all_walk;
 use anyhow::anyhow;
 use network::Line;
 use routes::take_routes;
 use std::alloc::{AllocError, Global};
+use std::error::Error;
+use std::fmt;
 
-/// What stands in a list of routes before they are taken.
-const OLD: u16 = 7777;
+/// More room than any routes need.
+const ROOM: usize = 1030;
 
-/// What came of taking routes.
-#[derive(Clone, Copy, PartialEq)]
-pub enum Taken {
-    Walk,
+/// Why there are no routes that walk.
+#[derive(Debug, Clone, Copy, PartialEq, Eq)]
+pub enum NotTaken {
     Refused,
     Wrong,
 }
 
-impl Taken {
-    fn text(self) -> &'static str {
+impl fmt::Display for NotTaken {
+    fn fmt<W: fmt::Write>(&self, f: &mut fmt::Formatter<W>) -> fmt::Result {
         match self {
-            Taken::Walk => "routes walk",
-            Taken::Refused => "refused, nothing written",
-            Taken::Wrong => "wrong",
+            NotTaken::Refused => write!(f, "refused, nothing written"),
+            NotTaken::Wrong => write!(f, "wrong"),
         }
     }
 }
+
+impl Error for NotTaken {}
 
 /// Which routes are taken: k from a to b, out of marks that carry a value, into a list with some room.
 #[derive(Clone, Copy)]
@@ -38,15 +41,6 @@ pub struct Taking {
     pub room: usize,
 }
 
-fn all_old(list: &[u16]) -> bool {
-    for number in list {
-        if *number != OLD {
-            return false;
-        }
-    }
-    true
-}
-
 // Takes the routes into the list and walks them; the list past them has to stay as it was.
 fn take_into(
     sites: usize,
@@ -54,43 +48,31 @@ fn take_into(
     marks: &[u8],
     taking: Taking,
     list: &mut [u16],
-) -> Taken {
+) -> Result<(), NotTaken> {
     let Taking { a, b, value, k, .. } = taking;
-    let Some(count) = take_routes(sites, lines, marks, a, b, value, k, list) else {
-        return if all_old(list) {
-            Taken::Refused
-        } else {
-            Taken::Wrong
-        };
-    };
-    let Some((numbers, rest)) = list.split_at_checked(count) else {
-        return Taken::Wrong;
-    };
-    if all_old(rest) && all_walk(lines, numbers, a, b, k) {
-        Taken::Walk
-    } else {
-        Taken::Wrong
+    match take_routes(sites, lines, marks, a, b, value, k, list) {
+        None if is_old(list, 0) => Err(NotTaken::Refused),
+        Some(count)
+            if is_old(list, count)
+                && list
+                    .get(..count)
+                    .is_some_and(|numbers| all_walk(lines, numbers, a, b, k)) => { Ok(()) }
+        _ => Err(NotTaken::Wrong),
     }
 }
 
 /// Takes the routes and walks them.
-pub fn take(sites: usize, lines: &[Line], marks: &[u8], taking: Taking) -> Taken {
-    let mut list = [OLD; 1030];
-    take_into(
-        sites,
-        lines,
-        marks,
-        taking,
-        &mut list[0..taking.room.min(1030)],
-    )
+pub fn take(sites: usize, lines: &[Line], marks: &[u8], taking: Taking) -> Result<(), NotTaken> {
+    let mut list = [u16::OLD; ROOM];
+    let room = &mut list[..taking.room.min(ROOM)];
+    take_into(sites, lines, marks, taking, room)
 }
 
 fn marks_of(heap: Global, numbers: &[usize]) -> Result<Vec<u8>, AllocError> {
-    let mut marks = Vec::new(heap);
-    for number in numbers {
-        marks.push(u8::try_from(*number).unwrap_or(u8::MAX))?;
-    }
-    Ok(marks)
+    numbers
+        .iter()
+        .map(|number| u8::try_from(*number).unwrap_or(u8::MAX))
+        .collect(heap)
 }
 
 /// Takes routes out of marks: the numbers are which, how many marks there are, the marks, and the lines held.
@@ -110,7 +92,10 @@ pub fn print_taking(rt: &HostRuntime, net: &mut Network, numbers: &[usize]) -> a
         k: *k,
         room: *room,
     };
-    let text = take(net.sites.len(), &net.lines, &marks, taking).text();
-    println!(rt; " {a}-{b}: {k} of {value} into {room}: {text}")?;
+    print!(rt; " {a}-{b}: {k} of {value} into {room}: ")?;
+    match take(net.sites.len(), &net.lines, &marks, taking) {
+        Ok(()) => println!(rt; "routes walk")?,
+        Err(fault) => println!(rt; "{fault}")?,
+    }
     Ok(())
 }

@@ -1,7 +1,7 @@
 //! Builds the tree of a network with both engines.
 
 use crate::networks::Network;
-use anyhow::anyhow;
+use anyhow::Context;
 use cuttree::{Tree, build};
 use engines::{Push, ShortestRoute};
 
@@ -14,11 +14,8 @@ pub struct Trees {
 
 pub fn grow(net: &Network) -> anyhow::Result<Trees> {
     let sites = net.sites.len();
-    let Some(shortest) = build::<ShortestRoute>(sites, &net.lines) else {
-        return Err(anyhow!("no tree by shortest routes"));
-    };
-    let Some(push) = build::<Push>(sites, &net.lines) else {
-        return Err(anyhow!("no tree by pushes"));
-    };
-    Ok(Trees { shortest, push })
+    Ok(Trees {
+        shortest: build::<ShortestRoute>(sites, &net.lines).context("no tree by shortest routes")?,
+        push: build::<Push>(sites, &net.lines).context("no tree by pushes")?,
+    })
 }

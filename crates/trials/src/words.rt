@@ -1,45 +1,32 @@
 //! Reads the words of a case.
 
-use anyhow::anyhow;
+use anyhow::ensure;
 use std::alloc::Global;
 
-fn digit(letter: u8) -> Option<u8> {
-    match letter {
-        b'0'..=b'9' => Some(letter - b'0'),
-        b'a'..=b'f' => Some(letter - b'a' + 10),
-        _ => None,
-    }
+// Capital letters are no digits of a case.
+fn is_digit(letter: u8) -> bool {
+    matches!(letter, b'0'..=b'9' | b'a'..=b'f')
+}
+
+fn byte_of(pair: &[u8]) -> anyhow::Result<u8> {
+    Ok(u8::from_str_radix(str::from_utf8(pair)?, 16)?)
 }
 
 /// The bytes that a word spells, two digits each; `-` spells none.
 pub fn bytes_of(heap: Global, word: &str) -> anyhow::Result<Vec<u8>> {
-    let mut bytes = Vec::new(heap);
-    if word == "-" {
-        return Ok(bytes);
-    }
-    let mut high = None;
-    for letter in word.bytes() {
-        let Some(low) = digit(letter) else {
-            return Err(anyhow!("a letter that is no digit"));
-        };
-        match high {
-            None => high = Some(low),
-            Some(first) => {
-                bytes.push((first << 4) | low)?;
-                high = None;
-            }
-        }
-    }
-    if high.is_some() {
-        return Err(anyhow!("half a byte"));
-    }
-    Ok(bytes)
+    let digits = if word == "-" { "" } else { word };
+    ensure!(digits.bytes().all(is_digit), "a letter that is no digit");
+    ensure!(digits.len() % 2 == 0, "half a byte");
+    digits
+        .as_bytes()
+        .chunks_exact(2)
+        .map(byte_of)
+        .try_collect(heap)
 }
 
 pub fn numbers_of(heap: Global, words: &[&str]) -> anyhow::Result<Vec<usize>> {
-    let mut numbers = Vec::new(heap);
-    for word in words {
-        numbers.push(word.parse::<usize>()?)?;
-    }
-    Ok(numbers)
+    words
+        .iter()
+        .map(|word| -> anyhow::Result<usize> { Ok(word.parse()?) })
+        .try_collect(heap)
 }
