@@ -13,6 +13,7 @@ use Rattle.network.specs.Cuts.{crosses, crossing_by}
 use Rattle.network.specs.Flow.{mark_at, one, leaves, arrives, outs, ins, Marked, AllMarked, Balanced}
 use Rattle.network.specs.Answers.{Task, Flows, Answer}
 use Rattle.network.proofs.Sums.{sum_marked_plus, sum_marked_zero, sum_marked_count, outs_le, outs_front, ins_front, below, cut}
+use Rattle.engines.specs.Hands.{InHand}
 use Rattle.engines.specs.Arcs.{tail, head, residual, arc}
 use Rattle.engines.specs.Search.{seen_at, Stuck}
 use Rattle.engines.proofs.Arcs.{head_below, tail_below}
@@ -74,23 +75,27 @@ pub none_marked : (ls : List Line) (ms : List ℕ) → ((k : ℕ) → mark_at ms
 none_marked ls ms dark k _ = (omega (arith, dark k), λ _. dark k)
 
 -- a search that is stuck answers: the side of the places that it has seen
-pub answered : (ls : List Line) (ms₀ ms : List ℕ) (ws : List SiteWork) (n a b v side : ℕ) → length ws ≡ n → length ms ≡ length ls → length ms₀ ≡ length ls →
-    AllJoin n ls → a < n → b < n → AllMarked ls ms → Balanced ls ms a b v → Stuck ls ms ws a b →
-    side < 2 ^ length ws → ((q : ℕ) → q < length ws → member side q ≡ not (eqb (seen_at ws q) 0)) → Flows n ls a b ms₀ ms v side
-answered ls ms₀ ms ws n a b v side size sized sized₀ joins in_a in_b marked bal stuck low places =
+pub answered : (q : Question) (ms₀ ms : List ℕ) (ws : List SiteWork) (v side : ℕ) → InHand q.net ms ws → length ms₀ ≡ length q.net.lines.now →
+    AllMarked q.net.lines.now ms → Balanced q.net.lines.now ms q.a q.b v → Stuck q.net.lines.now ms ws q.a q.b →
+    side < 2 ^ length ws → ((p : ℕ) → p < length ws → member side p ≡ not (eqb (seen_at ws p) 0)) →
+    Flows q.net.sites q.net.lines.now q.a q.b ms₀ ms v side
+answered q ms₀ ms ws v side h sized₀ marked bal stuck low places =
     record {
       parted = record {
-        has_a = held a in_a stuck.lit;
+        has_a = has_a;
         lacks_b = dark;
-        within = subst (λ (x : ℕ). side < 2 ^ x) size low;
-        crossed = crossings (member side) n ls ms a b v sized joins marked bal in_a (held a in_a stuck.lit) dark
-            (λ k e lt h tk. held (head (line_at ls k) e) (head_below n (line_at ls k) e (joins k lt))
-            (stuck.shut k e lt (lit (tail (line_at ls k) e) (tail_below n (line_at ls k) e (joins k lt)) h) tk));
+        within = subst (λ (x : ℕ). side < 2 ^ x) h.kept low;
+        crossed = crossings (member side) q.net.sites ls ms q.a q.b v h.marked q.net.joined marked bal q.a_within has_a dark
+            (λ k e lt at tk. held (head (line_at ls k) e) (head_below q.net.sites (line_at ls k) e (q.net.joined k lt))
+            (stuck.shut k e lt (lit (tail (line_at ls k) e) (tail_below q.net.sites (line_at ls k) e (q.net.joined k lt)) at) tk));
       };
       carried = record { marked = marked; balanced = bal };
-      rest = drop_all (length ls) ms (omega arith) ∙ sym (drop_all (length ls) ms₀ (omega arith));
+      rest = drop_all (length ls) ms (omega (arith, h.marked)) ∙ sym (drop_all (length ls) ms₀ (omega arith));
     }
   where
+    ls : List Line
+    ls = q.net.lines.now
+
     is_lit : (t : Bool) (s : ℕ) → t ≡ not (eqb s 0) → t ≡ true → 0 < s
     is_lit t s e h = grind (arith, nat_tests)
 
@@ -100,14 +105,17 @@ answered ls ms₀ ms ws n a b v side size sized sized₀ joins in_a in_b marked 
     is_dark : (t : Bool) (s : ℕ) → t ≡ not (eqb s 0) → s ≡ 0 → t ≡ false
     is_dark t s e h = grind (arith, nat_tests)
 
-    lit : (q : ℕ) → q < n → member side q ≡ true → 0 < seen_at ws q
-    lit q lt = is_lit (member side q) (seen_at ws q) (places q (omega arith))
+    lit : (p : ℕ) → p < q.net.sites → member side p ≡ true → 0 < seen_at ws p
+    lit p lt = is_lit (member side p) (seen_at ws p) (places p (omega (arith, h.kept)))
 
-    held : (q : ℕ) → q < n → 0 < seen_at ws q → member side q ≡ true
-    held q lt = is_held (member side q) (seen_at ws q) (places q (omega arith))
+    held : (p : ℕ) → p < q.net.sites → 0 < seen_at ws p → member side p ≡ true
+    held p lt = is_held (member side p) (seen_at ws p) (places p (omega (arith, h.kept)))
 
-    dark : member side b ≡ false
-    dark = is_dark (member side b) (seen_at ws b) (places b (omega arith)) stuck.dark
+    has_a : member side q.a ≡ true
+    has_a = held q.a q.a_within stuck.lit
+
+    dark : member side q.b ≡ false
+    dark = is_dark (member side q.b) (seen_at ws q.b) (places q.b (omega (arith, h.kept, q.b_within))) stuck.dark
 
 -- an answer over the front of the marks, just as many as there are lines, is one over all of them
 pub widened : (q : Question) (n : ℕ) (ls : List Line) (a b : ℕ) (ms front after : List ℕ) (ws ws' : List SiteWork) (f : Flow) →

@@ -2,12 +2,14 @@
 use Rattle.std.proofs.Common.{◌≡◌, ℕ, ◌+◌, ◌<◌, ◌≤◌, Bool, true, false, cond, eqb, List, length, sym, refl, ap, ◌∙◌, subst, inl, inr, arith}
 use Rattle.std.proofs.lemmas.List.{get_or-set_other}
 use Rattle.network.specs.declared.line.Line.{Line}
+use Rattle.network.specs.declared.network.Network.{Network}
 use Rattle.network.specs.declared.engine.SiteWork.{SiteWork}
 use Rattle.network.specs.Lines.{line_at, AllJoin}
 use Rattle.network.specs.Flow.{mark_at, one, Balanced}
+use Rattle.engines.specs.Hands.{InHand}
 use Rattle.engines.specs.Arcs.{tail, head, residual, arc, pushed, sent_over, Sent}
 use Rattle.engines.specs.Search.{seen_at, parent_at, way_in, Rooted, Walk}
-use Rattle.engines.proofs.Arcs.{tail_below, turned, way_to, push_net, push_marked}
+use Rattle.engines.proofs.Arcs.{tail_below, joined_in, turned, way_to, push_net, push_marked}
 use Rattle.engines.proofs.Rounds.{step_by}
 
 -- one unit over the line k to c
@@ -54,12 +56,14 @@ module _ (ls : List Line) (ms₀ ms : List ℕ) (ws : List SiteWork) (a b c : �
         route = by_route;
       }
 
-pub walk_step : (ls : List Line) (ms₀ ms ms' : List ℕ) (ws : List SiteWork) (a b c c' : ℕ) → length ms ≡ length ls → AllJoin (length ws) ls →
-    Walk ls ms₀ ms ws a b c → (c ≡ a → ⊥) →
-    c' ≡ tail (line_at ls (parent_at ws c)) (way_in ls ws c) →
-    ms' ≡ sent_over ms (parent_at ws c) (way_in ls ws c) →
-    Walk ls ms₀ ms' ws a b c' × (seen_at ws c' < seen_at ws c)
-walk_step ls ms₀ ms ms' ws a b c c' size joins w ne c_is m_is =
+pub walk_step : (net : Network) (ms₀ ms ms' : List ℕ) (ws : List SiteWork) (a b c c' : ℕ) → InHand net ms ws →
+    Walk net.lines.now ms₀ ms ws a b c → (c ≡ a → ⊥) →
+    c' ≡ tail (line_at net.lines.now (parent_at ws c)) (way_in net.lines.now ws c) →
+    ms' ≡ sent_over ms (parent_at ws c) (way_in net.lines.now ws c) →
+    Walk net.lines.now ms₀ ms' ws a b c' × (seen_at ws c' < seen_at ws c)
+walk_step net ms₀ ms ms' ws a b c c' h w ne c_is m_is =
+    let ls = net.lines.now in
+    let joins = joined_in net ms ws h in
     elim (w.route c w.inside w.lit (omega arith)) [
       | inl root ↦ absurd (ne root)
       | inr s ↦
@@ -69,7 +73,7 @@ walk_step ls ms₀ ms ms' ws a b c c' size joins w ne c_is m_is =
           let after : ms' ≡ sent_over ms k s.way = m_is ∙ ap (λ (x : Bool). sent_over ms k x) is in (
             subst (λ (x : ℕ). Walk ls ms₀ ms' ws a b x) (sym at)
                 (subst (λ (x : List ℕ). Walk ls ms₀ x ws a b (tail (line_at ls k) s.way)) (sym after)
-                (walk_by ls ms₀ ms ws a b c size joins w k s.way s.listed s.ends s.takes s.from_seen s.falls)),
+                (walk_by ls ms₀ ms ws a b c h.marked joins w k s.way s.listed s.ends s.takes s.from_seen s.falls)),
             omega (arith, ap (seen_at ws) at, s.falls),
           )
     ]

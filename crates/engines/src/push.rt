@@ -5,7 +5,7 @@ ghost use Rattle.engines.specs.Hands.{InHand};
 ghost use Rattle.engines.specs.Heights.{height_at, surplus_at, moved, raised, Loaded, Sends, Tried, TriedLine, TriedAll, Stepped, Preflow, Settled, Fresh, Opening};
 
 use crate::residual::{Way, clear_marks};
-use crate::search::{search, side_seen};
+use crate::search::{clear_work, search, side_seen};
 use crate::task::{Method, Question, answer};
 use network::{Engine, Flow, Line, Network, SiteWork};
 
@@ -140,7 +140,7 @@ fn prepare(question: &Question<'_>, work: &mut [SiteWork])
     requires { length work.old ≡ question.now.net.sites }
     ensures { Fresh work.new question.now.a (length question.now.net.lines.now) }
 {
-    work.fill(SiteWork::default());
+    clear_work(work);
     work[question.a] = SiteWork {
         height: question.net.sites as u16,
         surplus: question.net.lines.len() as u16,

@@ -5,7 +5,7 @@ ghost use Rattle.std.specs.Bool.{OnFalse};
 ghost use Rattle.network.specs.Lines.{Joins};
 ghost use Rattle.network.specs.Sides.{member};
 ghost use Rattle.engines.specs.Hands.{InHand};
-ghost use Rattle.engines.specs.Search.{site_at, seen_at, noted, reaches, adds_up, seen_after, Scanned, Round, Found, Stuck};
+ghost use Rattle.engines.specs.Search.{no_site, site_at, seen_at, noted, reaches, adds_up, seen_after, Scanned, Round, Found, Stuck};
 
 use crate::residual::Way;
 use crate::task::Question;
@@ -88,12 +88,18 @@ fn scan_round(net: &Network<'_>, marks: &[u8], work: &mut [SiteWork], layer: u16
     found
 }
 
+pub fn clear_work(work: &mut [SiteWork])
+    ensures { (q : ℕ) → site_at work.new q ≡ no_site }
+{
+    work.fill(SiteWork::default());
+}
+
 fn start_search(work: &mut [SiteWork], a: usize)
     requires { a < length work.old }
     ensures begun { (ls : List Line) (ms : List ℕ) → Round ls ms a 1 false (λ k e. ⊥) work.new }
     ensures others { (q : ℕ) → q ≢ a → seen_at work.new q ≡ 0 }
 {
-    work.fill(SiteWork::default());
+    clear_work(work);
     note_seen(work, a, 0, 1);
 }
 

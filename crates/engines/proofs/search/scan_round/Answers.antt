@@ -1,14 +1,8 @@
-use Rattle.std.proofs.Common.{◌+◌, ◌<◌, false, ◌||◌, length, sym, refl, ◌∙◌, arith}
-use Rattle.engines.proofs.Rounds.{round_as, round_idle, round_line, round_pass, round_weaken}
+use Rattle.std.proofs.Common.{◌+◌, ◌<◌, ◌||◌, length, sym, ◌∙◌, arith}
+use Rattle.engines.proofs.Rounds.{round_as, round_idle, round_line, round_pass}
 use Rattle.engines.proofs.Arcs.{joins_at}
 use Rattle.engines.proofs.search.scan_round.Goals as goal
 use Rattle.engines.proofs.search.scan_round.Goals.{then-may_reach, else-may_reach}
-
-pub loop-k-init : goal.loop-k-init
-loop-k-init c = (
-  λ a. round_weaken c.args.net.now.lines.now c.args.marks.now a c.args.layer false (λ k e. ⊥) (λ k e. k < 0) c.args.work.now (λ k e lt. omega arith),
-  λ _. refl,
-)
 
 pub loop-k-preserved : goal.loop-k-preserved
 loop-k-preserved c =
@@ -34,8 +28,3 @@ loop-k-preserved c =
         λ off. w.work-is ∙ c.loop-k.invariant.1 (sym w.found-is ∙ off),
       )
     ]
-
-pub returns-clause-scanned : goal.returns-clause-scanned
-returns-clause-scanned c = λ a r.
-    round_weaken c.args.net.now.lines.now c.args.marks.now a c.args.layer c.loop-k.found (λ k e. k < c.loop-k.k)
-    (λ k e. k < length c.args.net.now.lines.now) c.loop-k.work (λ k e lt. omega arith) (c.loop-k.invariant.0 a r)
