@@ -14,11 +14,11 @@ use crate::parts::{LinePart, LineRecord, SitePart};
 use network::{Line, LineState, Site};
 
 /// A network file that has passed all checks: the caller's bytes, lent. Nothing is copied out of them before it is
-/// asked for. Only `open` makes one, and says that its bytes have no fault; what the methods say of it takes that as a
-/// premise, since a struct that lends bytes and has a ghost field cannot be handed out in a `Result`.
+/// asked for.
 #[derive(Clone, Copy)]
 pub struct NetworkFile<'a> {
     bytes: &'a [u8],
+    ghost accepted: { first_fault bytes.now ≡ None },
 }
 
 impl<'a> NetworkFile<'a> {
@@ -33,20 +33,20 @@ impl<'a> NetworkFile<'a> {
     }
 
     pub fn site_count(&self) -> usize
-        ensures { first_fault self.now.bytes.now ≡ None → result ≡ length (sites_in self.now.bytes.now) }
+        ensures { result ≡ length (sites_in self.now.bytes.now) }
     {
         self.sites().total
     }
 
     pub fn line_count(&self) -> usize
-        ensures { first_fault self.now.bytes.now ≡ None → result ≡ length (lines_in self.now.bytes.now) }
+        ensures { result ≡ length (lines_in self.now.bytes.now) }
     {
         self.lines().total
     }
 
     /// The site at a place; none past the last.
     pub fn site(&self, place: usize) -> Option<Site>
-        ensures { first_fault self.now.bytes.now ≡ None → result ≡ slice_get (sites_in self.now.bytes.now) place }
+        ensures { result ≡ slice_get (sites_in self.now.bytes.now) place }
     {
         let sites = self.sites();
         if place < sites.total {
@@ -58,7 +58,7 @@ impl<'a> NetworkFile<'a> {
 
     /// The line at a position, with the places of its two sites; none past the last.
     pub fn line(&self, position: usize) -> Option<Line>
-        ensures { first_fault self.now.bytes.now ≡ None → result ≡ slice_get (lines_in self.now.bytes.now) position }
+        ensures { result ≡ slice_get (lines_in self.now.bytes.now) position }
     {
         let lines = self.lines();
         if position >= lines.total {
@@ -70,19 +70,19 @@ impl<'a> NetworkFile<'a> {
     }
 
     fn sites(&self) -> SitePart<'a>
-        ensures numbers { first_fault self.now.bytes.now ≡ None → numbers_from result.bytes.now result.start 8 result.total ≡ site_numbers self.now.bytes.now }
-        ensures few { first_fault self.now.bytes.now ≡ None → length (numbers_from result.bytes.now result.start 8 result.total) ≤ 64 }
-        ensures total { first_fault self.now.bytes.now ≡ None → result.total ≡ length (sites_in self.now.bytes.now) }
-        ensures there { first_fault self.now.bytes.now ≡ None → (i : ℕ) → i < result.total → Some (site_from result.bytes.now (result.start + 8 * i)) ≡ slice_get (sites_in self.now.bytes.now) i }
-        ensures past { first_fault self.now.bytes.now ≡ None → (i : ℕ) → result.total ≤ i → None ≡ slice_get (sites_in self.now.bytes.now) i }
+        ensures numbers { numbers_from result.bytes.now result.start 8 result.total ≡ site_numbers self.now.bytes.now }
+        ensures few { length (numbers_from result.bytes.now result.start 8 result.total) ≤ 64 }
+        ensures total { result.total ≡ length (sites_in self.now.bytes.now) }
+        ensures there { (i : ℕ) → i < result.total → Some (site_from result.bytes.now (result.start + 8 * i)) ≡ slice_get (sites_in self.now.bytes.now) i }
+        ensures past { (i : ℕ) → result.total ≤ i → None ≡ slice_get (sites_in self.now.bytes.now) i }
     {
         site_part(self.bytes)
     }
 
     fn lines(&self) -> LinePart<'a>
-        ensures total { first_fault self.now.bytes.now ≡ None → result.total ≡ length (lines_in self.now.bytes.now) }
-        ensures there { first_fault self.now.bytes.now ≡ None → (j : ℕ) → j < result.total → Some (line_from (site_numbers self.now.bytes.now) (named_from result.bytes.now (result.start + 6 * j))) ≡ slice_get (lines_in self.now.bytes.now) j }
-        ensures past { first_fault self.now.bytes.now ≡ None → (j : ℕ) → result.total ≤ j → None ≡ slice_get (lines_in self.now.bytes.now) j }
+        ensures total { result.total ≡ length (lines_in self.now.bytes.now) }
+        ensures there { (j : ℕ) → j < result.total → Some (line_from (site_numbers self.now.bytes.now) (named_from result.bytes.now (result.start + 6 * j))) ≡ slice_get (lines_in self.now.bytes.now) j }
+        ensures past { (j : ℕ) → result.total ≤ j → None ≡ slice_get (lines_in self.now.bytes.now) j }
     {
         line_part(self.bytes)
     }

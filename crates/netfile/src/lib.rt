@@ -13,4 +13,4 @@ mod record_checks;
 pub use faults::{FileFault, Layer, NetworkFault, RecordFault};
 pub use file::NetworkFile;
 pub use laws::meaning_laws;
-pub use numbered::{Numbered, find, first_not_rising};
+pub use numbered::{HasNumber, Numbered, find, first_not_rising};

@@ -1,5 +1,7 @@
-ghost use Rattle.std.specs.Prelude.{◌≡◌, ℕ, List, length, slice_index};
+ghost use Rattle.std.specs.Prelude.{◌≡◌, ℕ, List, map, length, slice_index};
 ghost use Rattle.netfile.specs.Search.{position_of, falls_at, first_fall};
+
+use network::Site;
 
 /// Records that have a number each, by position.
 pub trait Numbered {
@@ -11,6 +13,35 @@ pub trait Numbered {
     /// The number of the record at a position; 0 past the last one.
     fn number(&self, i: usize) -> u16
         ensures { result ≡ slice_index (numbers self.now) i };
+}
+
+/// A record that has a number.
+pub trait HasNumber {
+    ghost number_of: { Self → ℕ };
+
+    fn number(&self) -> u16
+        ensures { result ≡ number_of self.now };
+}
+
+impl HasNumber for Site {
+    ghost number_of = { λ s. s.number };
+
+    fn number(&self) -> u16 {
+        self.number
+    }
+}
+
+/// A table of such records, in its order.
+impl<R: HasNumber> Numbered for Vec<R> {
+    ghost numbers = { λ v. map R.number_of v.items };
+
+    fn count(&self) -> usize {
+        self.len()
+    }
+
+    fn number(&self, i: usize) -> u16 {
+        self.get(i).map_or(0, |record| record.number())
+    }
 }
 
 /// The first position at which a number stands.
