@@ -1,14 +1,14 @@
 -- One step of the builder: a pair that is done, and a pair that is split.
-use Rattle.std.proofs.Common.{◌≡◌, ℕ, suc, ◌+◌, ◌-◌, ◌^◌, ◌<◌, true, List, [], ◌∷◌, length, set, sym, refl, ap, ◌∙◌, inl, inr, add-one, get_or-set_other, get_or-set_same}
+use Rattle.std.proofs.Common.{◌≡◌, ℕ, suc, ◌+◌, ◌-◌, ◌^◌, ◌<◌, true, List, [], ◌∷◌, length, set, sym, refl, ap, ◌∙◌, ap₂, inl, inr, add-one, get_or-set_other, get_or-set_same}
 use Rattle.std.proofs.lemmas.Bool.{and_parts, and_from, not_from_false}
 use Rattle.network.specs.declared.line.Line.{Line}
+use Rattle.network.specs.Lines.{AllJoin}
 use Rattle.network.specs.Sides.{member, size_below}
 use Rattle.network.specs.Cuts.{level_of}
 use Rattle.network.specs.Answers.{PartedBy}
 use Rattle.cuttree.specs.declared.tree.Node.{Node}
 use Rattle.cuttree.specs.Nodes.{node_at, no_node}
 use Rattle.cuttree.specs.Splits.{Part, Join, part, Alone, Next, Split, start, done, split, Holds, Stands}
-use Rattle.cuttree.specs.Trees.{Lawful}
 use Rattle.cuttree.proofs.Growing.{Joined, grown_growing}
 use Rattle.cuttree.proofs.Sizes.{size_parts, size_some}
 
@@ -24,20 +24,22 @@ stands_start n ls g ns e root = ([], rw e start, root, refl)
 pub stands_done : (n : ℕ) (ls : List Line) (p : Part) (ps : List Part) (k : ℕ) (ns : List Node) → Alone p → Stands n ls (p ∷ ps) k ns → Stands n ls ps k ns
 stands_done n ls p ps k ns alone st = (st.0, done st.0 p ps alone st.1, st.2, st.3)
 
-module _ (n : ℕ) (ls : List Line) (p : Part) (t side : ℕ) (near far : Part) (lawful : Lawful n ls) (next : Next p t)
-    (parted : PartedBy n ls p.from t (level_of n ls p.from t) side) (parts : Split p t side near far) where
-  pub stands_split : (ps : List Part) (k : ℕ) (ns : List Node) (v : Node) → t < length ns →
-      v ≡ record { parent = p.from; weight = level_of n ls p.from t; order = k + 1 } →
+module _ (n : ℕ) (ls : List Line) (p : Part) (t w side : ℕ) (near far : Part) (some : 0 < n) (net : AllJoin n ls) (next : Next p t)
+    (level : w ≡ level_of n ls p.from t) (parted : PartedBy n ls p.from t w side) (parts : Split p t side near far) where
+  pub stands_split : (ps : List Part) (k s : ℕ) (ns : List Node) (v : Node) → t < length ns →
+      v ≡ record { parent = s; weight = w; order = k + 1 } → s ≡ p.from →
       Stands n ls (p ∷ ps) k ns → Stands n ls (near ∷ far ∷ ps) (k + 1) (set ns t v)
-  stands_split ps k ns v room v_is st =
+  stands_split ps k s ns v room v_is s_is st =
       let js = st.0 in
-      let w = level_of n ls p.from t in
-      let g = grown_growing n ls js (p ∷ ps) lawful.some_site lawful.all_join st.1 in
+      let g = grown_growing n ls js (p ∷ ps) some net st.1 in
       let new : Joined js t → ⊥ = λ h. next.other (g.parts.0.only t h next.waits) in
       let number : k + 1 ≡ suc (length js) = add-one k ∙ ap suc (sym st.3) in (
         record { place = t; to = p.from; by = w } ∷ js,
-        split js p ps t w side near far next refl parted parts st.1,
-        (get_or-set_same ns t v no_node room ∙ v_is ∙ ap (λ (o : ℕ). record { parent = p.from; weight = w; order = o }) number, holds_set ns js t v new st.2),
+        split js p ps t w side near far next level parted parts st.1,
+        (
+          get_or-set_same ns t v no_node room ∙ v_is ∙ ap₂ (λ (q o : ℕ). record { parent = q; weight = w; order = o }) s_is number,
+          holds_set ns js t v new st.2,
+        ),
         sym number,
       )
 

@@ -1,9 +1,10 @@
 -- Levels and groups from the tree are those of the network.
-use Rattle.std.proofs.Common.{◌≡◌, ℕ, zero, suc, ◌+◌, ◌<◌, ◌≤◌, Bool, true, false, cond, ◌||◌, eqb, leb, List, [], ◌∷◌, ◌++◌, map, length, get_or, take, drop, set, sym, refl, ap, ◌∙◌, ap₂, inl, inr, append_assoc, add-one, arith, drop-cons}
+use Rattle.std.proofs.Common.{◌≡◌, ℕ, zero, suc, ◌+◌, ◌<◌, ◌≤◌, Bool, true, false, cond, ◌||◌, eqb, leb, List, [], ◌∷◌, ◌++◌, map, length, get_or, take, drop, set, None, Some, Option, MatchOption, unwrap_or, sym, refl, ap, ◌∙◌, ap₂, inl, inr, append_assoc, add-one, arith, drop-cons}
 use Rattle.std.specs.List.{range_with_len}
 use Rattle.std.proofs.lemmas.List.FromFn.{length-map-range_with_len, get_or-map-range_with_len, map-range_with_len_more, fill_by_all}
-use Rattle.std.proofs.lemmas.List.{set_at, take_at}
-use Rattle.std.proofs.lemmas.Bool.{cases_eq, cases_lt, eq-eqb, false≢true}
+use Rattle.std.proofs.lemmas.List.{append-nil, drop_all, set_at, take_at}
+use Rattle.std.proofs.lemmas.Bool.{cases_eq, cases_lt, eq-eqb, le-leb, or_left, or_right, false≢true}
+use Rattle.std.proofs.lemmas.Bool.Decides.{nat_tests}
 use Rattle.network.specs.declared.line.Line.{Line}
 use Rattle.network.specs.Groups.{lowest_by, tally, near, lowest, group_list, group_count}
 use Rattle.network.specs.Lists.{different}
@@ -11,7 +12,7 @@ use Rattle.network.proofs.GroupList.{groups_listed}
 use Rattle.network.proofs.Lowest.{lowest_holds, lowest_first, lowest_same}
 use Rattle.cuttree.specs.declared.tree.Tree.{Tree}
 use Rattle.cuttree.proofs.Rooting.{two_from}
-use Rattle.cuttree.specs.Trees.{TreeOf, near_in, lowest_in, is_lowest_in, list_in, count_in, GroupsAre}
+use Rattle.cuttree.specs.Trees.{lightest, TreeOf, near_in, lowest_in, is_lowest_in, list_in, count_in, GroupsAre}
 
 -- the first number at which the test holds is the lowest
 pub lowest_is : (P : ℕ → Bool) (m i : ℕ) → i < m → P i ≡ true → ((j : ℕ) → j < i → P j ≡ false) → lowest_by P m ≡ i
@@ -19,6 +20,24 @@ lowest_is P m i l here before = elim (cases_lt (lowest_by P m) i) [
   | inl h ↦ absurd (false≢true (sym (before (lowest_by P m) h) ∙ lowest_holds P m (omega arith)))
   | inr h ↦ (let g = lowest_first P m i here in omega arith)
 ]
+
+-- the search below x for a place that is near it, and x where there is none
+pub lowest_found : (t : Tree) (k x : ℕ) (r : Option ℕ) → x < t.sites →
+    MatchOption r ((y : ℕ) → 0 ≤ y → y < x → lightest t x y < k)
+    (λ i. (0 ≤ i) × (i < x) × (k ≤ lightest t x i) × ((y : ℕ) → 0 ≤ y → y < i → lightest t x y < k))
+    → (unwrap_or r x ≡ lowest_in t k x) × (unwrap_or r x ≤ x)
+lowest_found t k x r l found = elim r as (λ q. MatchOption q ((y : ℕ) → 0 ≤ y → y < x → lightest t x y < k)
+    (λ i. (0 ≤ i) × (i < x) × (k ≤ lightest t x i) × ((y : ℕ) → 0 ≤ y → y < i → lightest t x y < k))
+    → (unwrap_or q x ≡ lowest_in t k x) × (unwrap_or q x ≤ x)) [
+      | None ↦ λ f. (sym (lowest_is (near_in t k x) t.sites x l (or_left _ _ (eq-eqb x x refl)) (λ y ly. far y (omega arith) (f y (omega arith) ly))), omega arith)
+      | Some i ↦ λ f. (
+        sym (lowest_is (near_in t k x) t.sites i (omega (arith, f.1)) (or_right _ _ (le-leb k (lightest t x i) f.2)) (λ y ly. far y (omega (arith, f.1)) (f.3 y (omega arith) ly))),
+        omega (arith, f.1),
+      )
+    ] found
+  where
+    far : (y : ℕ) → y < x → lightest t x y < k → near_in t k x y ≡ false
+    far y ly h = grind (arith, nat_tests)
 
 -- one more entry of a list that f fills from its start
 pub filled_more : (f : ℕ → ℕ) (xs : List ℕ) (i : ℕ) → i < length xs →
@@ -28,6 +47,11 @@ filled_more f xs i l =
     ∙ set_at (map f (range_with_len 0 i)) (get_or xs i 0) (drop (suc i) xs) (f i) i (length-map-range_with_len f 0 i)
     ∙ sym (append_assoc (map f (range_with_len 0 i)) (f i ∷ []) (drop (suc i) xs))
     ∙ ap₂ ◌++◌ (sym (map-range_with_len_more f 0 i i (omega arith))) (ap (λ j. drop j xs) (sym (add-one i)))
+
+-- .. and all of them
+pub filled_whole : (f : ℕ → ℕ) (xs : List ℕ) (i n : ℕ) → i ≡ n → length xs ≤ i → map f (range_with_len 0 i) ++ drop i xs ≡ map f (range_with_len 0 n)
+filled_whole f xs i n e l =
+    ap (λ ys. map f (range_with_len 0 i) ++ ys) (drop_all i xs l) ∙ append-nil (map f (range_with_len 0 i)) ∙ ap (λ m. map f (range_with_len 0 m)) e
 
 pub tally_more : (P : ℕ → Bool) (i : ℕ) → tally P (i + 1) ≡ cond (P i) 1 0 + tally P i
 unfolding tally

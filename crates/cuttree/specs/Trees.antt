@@ -2,7 +2,7 @@
 use Rattle.std.specs.Prelude.{◌≡◌, ℕ, ◌<◌, ◌≤◌, Bool, true, cond, not, ◌&&◌, ◌||◌, List, ◌++◌, map, length, take, drop, Some, None, Option, ◌==◌, nat_le, nat_lt}
 use Rattle.std.specs.List.{range_with_len}
 use Rattle.network.specs.declared.line.Line.{Line}
-use Rattle.network.specs.Lines.{AllJoin}
+use Rattle.network.specs.Lines.{AllJoin, Fits}
 use Rattle.network.specs.Cuts.{level_of}
 use Rattle.network.specs.Lists.{different}
 use Rattle.network.specs.Groups.{lowest_by, tally, group_list, group_count}
@@ -35,9 +35,7 @@ pub record TreeOf (n : ℕ) (ls : List Line) (t : Tree) : Type 0 where
 -- the line tables of which there is a tree
 pub record Lawful (n : ℕ) (ls : List Line) : Type 0 where
   pub some_site : 0 < n
-  pub few_sites : n ≤ 64
-  pub few_lines : length ls ≤ 512
-  pub all_join : AllJoin n ls
+  pub fits : Fits n ls
 
 -- what the builder answers: none where the line table is not lawful, else the tree of it
 abbrev pub Built : ℕ → List Line → Option Tree → Type 0

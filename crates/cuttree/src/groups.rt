@@ -1,6 +1,6 @@
 //! The groups at a level, from the tree: places with no lighter edge between them.
 
-ghost use Rattle.std.specs.Prelude.{◌≡◌, ◌+◌, ◌<◌, ◌≤◌, if◌then◌else◌, nat_eq};
+ghost use Rattle.std.specs.Prelude.{◌≡◌, ◌<◌, ◌≤◌};
 ghost use Rattle.cuttree.specs.Trees.{lowest_in, GroupsTold, GroupsOf};
 
 use crate::tree::Tree;
@@ -12,24 +12,19 @@ impl Tree {
         ensures told { GroupsTold self.now k list.old list.new result }
         ensures network { GroupsOf self.now k list.new result }
     {
-        let places = self.places();
-        if list.len() < places {
+        if list.len() < self.sites {
             return None;
         }
+        let entries = &mut list[..self.sites];
         let mut count = 0;
-        for x in 0..places {
+        for (x, entry) in entries.iter_mut().enumerate() {
             let low = self.lowest_near(k, x);
-            list[x] = low as u16;
-            count = counted(count, low, x);
+            *entry = low as u16;
+            if low == x {
+                count += 1;
+            }
         }
         Some(count)
-    }
-
-    /// How many places the tree has, each with an entry of the list.
-    fn places(&self) -> usize
-        ensures { result ≡ self.now.sites }
-    {
-        self.sites
     }
 
     /// The lowest place that no edge lighter than `k` parts from `x`.
@@ -38,19 +33,8 @@ impl Tree {
         ensures is { result ≡ lowest_in self.now k x }
         ensures low { result ≤ x }
     {
-        for y in 0..x {
-            if k <= u32::from(self.lightest_edge(x, y)) {
-                return y;
-            }
-        }
-        x
+        (0..x)
+            .find(|&y| k <= u32::from(self.lightest_edge(x, y)))
+            .unwrap_or(x)
     }
-}
-
-/// One group more where the place is the lowest of its group.
-fn counted(count: usize, low: usize, place: usize) -> usize
-    requires { count < 64 }
-    ensures { result ≡ (if nat_eq low place then 1 else 0) + count }
-{
-    if low == place { count + 1 } else { count }
 }

@@ -1,6 +1,6 @@
-ghost use Rattle.std.specs.Prelude.{◌≡◌, ◌<◌, min, ◌≢◌};
+ghost use Rattle.std.specs.Prelude.{◌≡◌, ◌<◌, true};
 ghost use Rattle.cuttree.specs.Nodes.{later, earlier};
-ghost use Rattle.cuttree.specs.Trees.{lightest, level_told, LevelIs};
+ghost use Rattle.cuttree.specs.Trees.{lightest, two_places, level_told, LevelIs};
 
 use crate::tree::Tree;
 
@@ -13,23 +13,21 @@ impl Tree {
         if a >= self.sites || b >= self.sites || a == b {
             return None;
         }
-        Some(self.lightest_edge(a, b) as usize)
+        Some(usize::from(self.lightest_edge(a, b)))
     }
 
     /// The later joined of the two places climbs to its parent, until the two meet.
     pub(crate) fn lightest_edge(&self, a: usize, b: usize) -> u16
-        requires first { a < self.now.sites }
-        requires second { b < self.now.sites }
-        requires two { a ≢ b }
+        requires two { two_places self.now.sites a b ≡ true }
         ensures { result ≡ lightest self.now a b }
     {
         let (late, early) = self.by_joining(a, b);
         let node = self.nodes[late];
-        let up = node.parent as usize;
+        let up = usize::from(node.parent);
         if up == early {
             return node.weight;
         }
-        lighter(node.weight, self.lightest_edge(up, early))
+        node.weight.min(self.lightest_edge(up, early))
     }
 
     /// The two places, the later joined first.
@@ -44,11 +42,4 @@ impl Tree {
             (b, a)
         }
     }
-}
-
-/// The lighter of two edges.
-fn lighter(a: u16, b: u16) -> u16
-    ensures { result ≡ min a b }
-{
-    if a <= b { a } else { b }
 }

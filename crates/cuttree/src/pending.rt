@@ -44,23 +44,13 @@ impl Pending {
     {
         let near = side::intersection(self.available, side);
         let far = outside(self.available, side);
-        two_pairs(near, self.source, far, t)
+        (Pending::new(near, self.source), Pending::new(far, t))
     }
-}
-
-/// The near places with their source, and the far ones with theirs.
-fn two_pairs(near: u64, source: usize, far: u64, t: usize) -> (Pending, Pending)
-    requires first { member near source ≡ true }
-    requires second { member far t ≡ true }
-    ensures first { (result.0.available ≡ near) × (result.0.source ≡ source) }
-    ensures second { (result.1.available ≡ far) × (result.1.source ≡ t) }
-{
-    (Pending::new(near, source), Pending::new(far, t))
 }
 
 /// The available places that are not in the side.
 fn outside(available: u64, side: u64) -> u64
     ensures { (x : ℕ) → member result x ≡ (member available x && not (member side x)) }
 {
-    available ^ (available & side)
+    available & !side
 }

@@ -1,48 +1,40 @@
 -- What leaves a place and what comes to it, counted line by line.
-use Rattle.std.proofs.Common.{◌≡◌, ℕ, ◌+◌, ◌<◌, ◌≤◌, Bool, true, false, eqb, ◌≢◌, ◌⊎◌, List, length, drop, refl, ap, ap₂, arith}
-use Rattle.std.proofs.lemmas.Bool.{ne_eqb, eq-eqb, cond-true, cond-false}
-use Rattle.std.proofs.lemmas.List.{drop_more, drop_all}
+use Rattle.std.proofs.Common.{◌≡◌, ℕ, ◌<◌, ◌≤◌, Bool, true, false, eqb, ◌≢◌, List, [], ◌∷◌, length, get_or, cond, count_by, None, Some, Option, MatchOption, MatchBool, IsSome, sym, refl, ◌∙◌, subst, inl, inr, arith, rules}
+use Rattle.std.specs.List.{zip, range_with_len, AllWithin, HoldsAt}
+use Rattle.std.proofs.lemmas.Bool.{ne_eqb, eq-eqb, cond-true, cond-false, cases_lt, false≢true}
+use Rattle.std.proofs.lemmas.List.{get_or_past}
+use Rattle.std.proofs.lemmas.List.FromFn.{length-range_with_len, get_or-range_with_len}
+use Rattle.std.proofs.lemmas.Slice.Zip.{length-zip, get_or-zip}
+use Rattle.std.proofs.Math.Nat.{zero-add}
+use Rattle.std.proofs.lemmas.List.Sums.{sum_by-cons}
 use Rattle.std.proofs.lemmas.Bool.Decides.{nat_tests}
 use Rattle.network.specs.declared.line.Line.{Line}
 use Rattle.network.specs.Lines.{no_line, line_at, AllJoin}
-use Rattle.network.specs.Flow.{mark_at, sum_marked, leaves, arrives, outs, ins, Balanced}
+use Rattle.network.specs.Flow.{sum_marked, leaves, arrives, outs, ins, Balanced, Marked, AllMarked}
 use Rattle.network.proofs.Sums.{sum_marked_zero, outs_le}
+use Rattle.routes.specs.declared.arcs.End.{End}
+use Rattle.routes.specs.declared.arcs.End.TheVariants.{From, To}
+use Rattle.routes.specs.Ends.{counts_at, carried_at}
 use Rattle.routes.specs.Shapes.{Shaped, BalancedAt}
 use Rattle.routes.specs.Taking.{Fit}
 
-sum_at : (f : Line → ℕ → ℕ) (ls : List Line) (ms : List ℕ) (p : ℕ) → p < length ls → p < length ms →
-    sum_marked f (drop p ls) (drop p ms) ≡ f (line_at ls p) (mark_at ms p) + sum_marked f (drop (p + 1) ls) (drop (p + 1) ms)
-sum_at f ls ms p l g = ap₂ (sum_marked f) (drop_more ls p no_line l) (drop_more ms p 0 g)
+at_most_one : (e : End) (q : ℕ) (l : Line) (m : ℕ) → counts_at e (eqb q) l m ≤ 1
+at_most_one From q l m = grind (arith, nat_tests)
+at_most_one To q l m = grind (arith, nat_tests)
 
-sum_past : (f : Line → ℕ → ℕ) (ls : List Line) (ms : List ℕ) (p : ℕ) → length ls ≤ p → sum_marked f (drop p ls) (drop p ms) ≡ 0
-sum_past f ls ms p l = ap (λ xs. sum_marked f xs (drop p ms)) (drop_all p ls l)
+count_marked : (f : Line → ℕ → ℕ) → ((l : Line) (m : ℕ) → f l m ≤ 1) → (ls : List Line) (ms : List ℕ) →
+    count_by (λ (p : Line × ℕ). eqb (f p.0 p.1) 1) (zip ls ms) ≡ sum_marked f ls ms
+count_marked f few [] ms = refl
+count_marked f few (l ∷ ls) [] = refl
+count_marked f few (l ∷ ls) (m ∷ ms) =
+    let once : cond (eqb (f l m) 1) 1 0 ≡ f l m = (let most = few l m in grind (arith, nat_tests)) in
+    omega (arith, once, count_marked f few ls ms, sum_by-cons (λ (p : Line × ℕ). cond (eqb (f p.0 p.1) 1) 1 0) (l, m) (zip ls ms))
 
-module _ (q : ℕ) (ls : List Line) (ms : List ℕ) (p : ℕ) where
-  pub outs_at : p < length ls → p < length ms →
-      outs (eqb q) (drop p ls) (drop p ms) ≡ leaves (eqb q) (line_at ls p) (mark_at ms p) + outs (eqb q) (drop (p + 1) ls) (drop (p + 1) ms)
-  unfolding outs
-  outs_at = sum_at (leaves (eqb q)) ls ms p
-
-  pub ins_at : p < length ls → p < length ms →
-      ins (eqb q) (drop p ls) (drop p ms) ≡ arrives (eqb q) (line_at ls p) (mark_at ms p) + ins (eqb q) (drop (p + 1) ls) (drop (p + 1) ms)
-  unfolding ins
-  ins_at = sum_at (arrives (eqb q)) ls ms p
-
-  pub outs_past : length ls ≤ p → outs (eqb q) (drop p ls) (drop p ms) ≡ 0
-  unfolding outs
-  outs_past = sum_past (leaves (eqb q)) ls ms p
-
-  pub ins_past : length ls ≤ p → ins (eqb q) (drop p ls) (drop p ms) ≡ 0
-  unfolding ins
-  ins_past = sum_past (arrives (eqb q)) ls ms p
-
--- a line is counted once or not at all
-module _ (q : ℕ) (l : Line) (m n n' : ℕ) (t : Bool) (way : ((t ≡ true) × (n' ≡ n + 1)) ⊎ ((t ≡ false) × (n' ≡ n))) where
-  pub leaves_counted : t ≡ eqb (leaves (eqb q) l m) 1 → n' ≡ n + leaves (eqb q) l m
-  leaves_counted e = grind (arith, nat_tests)
-
-  pub arrives_counted : t ≡ eqb (arrives (eqb q) l m) 1 → n' ≡ n + arrives (eqb q) l m
-  arrives_counted e = grind (arith, nat_tests)
+-- the lines that carry with one end at a place, counted
+pub carried_is : (e : End) (q : ℕ) (ls : List Line) (ms : List ℕ) → count_by (λ (p : Line × ℕ). eqb (counts_at e (eqb q) p.0 p.1) 1) (zip ls ms) ≡ carried_at e (eqb q) ls ms
+unfolding outs ins
+carried_is From q ls ms = count_marked (leaves (eqb q)) (at_most_one From q) ls ms
+carried_is To q ls ms = count_marked (arrives (eqb q)) (at_most_one To q) ls ms
 
 -- nothing leaves or comes to a place that is none of the network's
 module _ (n : ℕ) (ls : List Line) (ms : List ℕ) (q : ℕ) (net : AllJoin n ls) (past : n ≤ q) where
@@ -63,6 +55,57 @@ module _ (n : ℕ) (ls : List Line) (ms : List ℕ) (q : ℕ) (net : AllJoin n l
   pub balanced_outside : (a b v : ℕ) → a < n → b < n → BalancedAt ls ms a b v q
   balanced_outside a b v la lb =
       omega (arith, outs_outside, ins_outside, cond-false (eqb q b) v 0 (ne_eqb q b (λ e. omega arith)), cond-false (eqb q a) v 0 (ne_eqb q a (λ e. omega arith)))
+
+-- what `all` answers of a test of P over a list
+decided : {X : Type 0} (P : X → Type 0) (zs : List X) (d : X) (Q : Type 0) → (((k : ℕ) → k < length zs → P (get_or zs k d)) → Q) →
+    (Q → (k : ℕ) → k < length zs → P (get_or zs k d)) → (r : Bool) →
+    MatchBool r (AllWithin P zs 0 (length zs)) ((k : ℕ) × (k < length zs) × HoldsAt (λ z. P z → ⊥) zs k) → (r ≡ true → Q) × (Q → r ≡ true)
+decided P zs d Q to from true h = (λ _. to (λ k l. h k d (omega arith) l), λ _. refl)
+decided P zs d Q to from false h = (λ e. absurd (false≢true e), λ q. absurd (h.2 d (from q h.0 h.1)))
+
+-- .. over the places of a network
+pub balanced_decided : (n : ℕ) (ls : List Line) (ms : List ℕ) (a b v : ℕ) → AllJoin n ls → a < n → b < n → (r : Bool) →
+    MatchBool r (AllWithin (BalancedAt ls ms a b v) (range_with_len 0 n) 0 (length (range_with_len 0 n)))
+    ((k : ℕ) × (k < length (range_with_len 0 n)) × HoldsAt (λ p. BalancedAt ls ms a b v p → ⊥) (range_with_len 0 n) k)
+    → (r ≡ true → Balanced ls ms a b v) × (Balanced ls ms a b v → r ≡ true)
+balanced_decided n ls ms a b v net la lb = decided (BalancedAt ls ms a b v) (range_with_len 0 n) 0 (Balanced ls ms a b v)
+    (λ h p. elim (cases_lt p n) [
+      | inl l ↦ subst (BalancedAt ls ms a b v) (get_or-range_with_len 0 n p 0 l ∙ zero-add p) (h p (omega (arith, length-range_with_len 0 n)))
+      | inr l ↦ balanced_outside n ls ms p net l a b v la lb
+    ])
+    (λ h k _. h (get_or (range_with_len 0 n) k 0))
+
+-- .. and over the lines with their marks; past the last mark a line counts as unused
+pub marked_decided : (ls : List Line) (ms : List ℕ) (r : Bool) →
+    MatchBool r (AllWithin (λ (p : Line × ℕ). Marked p.0 p.1) (zip ls ms) 0 (length (zip ls ms)))
+    ((k : ℕ) × (k < length (zip ls ms)) × HoldsAt (λ (p : Line × ℕ). Marked p.0 p.1 → ⊥) (zip ls ms) k)
+    → (r ≡ true → AllMarked ls ms) × (AllMarked ls ms → r ≡ true)
+marked_decided ls ms = decided (λ (p : Line × ℕ). Marked p.0 p.1) (zip ls ms) (no_line, 0) (AllMarked ls ms)
+    (λ h p l. elim (cases_lt p (length ms)) [
+      | inl g ↦ subst (λ (z : Line × ℕ). Marked z.0 z.1) (get_or-zip ls ms p (no_line, 0) l g) (h p (omega (arith, length-zip ls ms)))
+      | inr g ↦ rw (get_or_past ms p 0 g) (omega arith, λ _. refl)
+    ])
+    (λ h k l. (let n = length-zip ls ms in
+    subst (λ (z : Line × ℕ). Marked z.0 z.1) (sym (get_or-zip ls ms k (no_line, 0) (omega arith) (omega arith))) (h k (omega arith))))
+
+-- where some line carries to a place, a search of the lines with their marks finds one
+pub arrival_found : (q : ℕ) (ls : List Line) (ms : List ℕ) (r : Option ℕ) → 0 < ins (eqb q) ls ms →
+    MatchOption r (AllWithin (λ (p : Line × ℕ). arrives (eqb q) p.0 p.1 ≡ 0) (zip ls ms) 0 (length (zip ls ms)))
+    (λ i. (i < length (zip ls ms)) × HoldsAt (λ (p : Line × ℕ). arrives (eqb q) p.0 p.1 ≡ 1) (zip ls ms) i
+    × AllWithin (λ (p : Line × ℕ). arrives (eqb q) p.0 p.1 ≡ 0) (zip ls ms) 0 i)
+    → IsSome r
+unfolding ins
+arrival_found q ls ms None some none = absurd (let z : ⊥ = omega (
+  arith,
+  some,
+  sum_marked_zero (arrives (eqb q)) ls ms
+      (λ p l g. (let n = length-zip ls ms in
+      subst (λ (z : Line × ℕ). arrives (eqb q) z.0 z.1 ≡ 0) (get_or-zip ls ms p (no_line, 0) l g) (none p (no_line, 0) (omega arith) (omega arith)))),
+) in z)
+arrival_found q ls ms (Some i) some found = search rules
+
+pub not_one : (l : Line) (m q : ℕ) → eqb (arrives (eqb q) l m) 1 ≡ false → arrives (eqb q) l m ≡ 0
+not_one l m q h = let few = at_most_one To q l m in grind (arith, nat_tests)
 
 -- no more is carried than there are lines
 pub value_le : (ls : List Line) (ms : List ℕ) (a b v : ℕ) → a ≢ b → Balanced ls ms a b v → v ≤ length ls

@@ -22,6 +22,10 @@ comes_touching l m c h = grind (arith, nat_tests)
 pub comes_leading : (l : Line) (m c : ℕ) → l.first ≢ l.second → arrives (eqb c) l m ≡ 1 → other_end l (source_of l m) ≡ c
 comes_leading l m c ne h = grind (arith, nat_tests)
 
+-- it comes from its far end
+pub far_is_source : (l : Line) (m c : ℕ) → l.first ≢ l.second → arrives (eqb c) l m ≡ 1 → other_end l c ≡ source_of l m
+far_is_source l m c ne h = grind (arith, nat_tests)
+
 leaves_source : (l : Line) (m c q : ℕ) → arrives (eqb c) l m ≡ 1 → leaves (eqb q) l m ≡ one (eqb q (source_of l m))
 leaves_source l m c q h = grind (arith, nat_tests)
 

@@ -1,6 +1,6 @@
 -- Chains that grow and shrink at their front.
-use Rattle.std.proofs.Common.{◌≡◌, ℕ, suc, ◌+◌, ◌-◌, ◌<◌, ◌≤◌, Bool, true, false, ◌≢◌, List, [], ◌∷◌, length, get_or, drop, set, Some, None, Option, sym, ap, ◌∙◌, subst, arith, MatchOption}
-use Rattle.std.proofs.lemmas.List.{drop_more, drop_all, drop-set, drop-set-lt}
+use Rattle.std.proofs.Common.{◌≡◌, ℕ, ◌+◌, ◌-◌, ◌<◌, ◌≤◌, Bool, true, false, ◌≢◌, List, [], ◌∷◌, length, get_or, drop, set, Some, None, Option, sym, ap, ◌∙◌, subst, arith, MatchOption}
+use Rattle.std.proofs.lemmas.List.{drop_more, drop_all, drop-drop, drop-set, drop-set-lt}
 use Rattle.network.specs.declared.line.Line.{Line}
 use Rattle.network.specs.Lines.{line_at}
 use Rattle.network.specs.Lists.{among, distinct}
@@ -90,20 +90,16 @@ module _ (ls : List Line) where
       subst (λ r. Way ls Q x b r) (sym (drop-set path (top - 1) p (omega arith) ∙ ap (λ i. p ∷ drop i path) at)) (way_more Q x c b p (drop top path) l t e q new w)
 
   -- .. and the loop left out, where the chain met the new place already
-  pub way_extended : (x c p : ℕ) (path : List ℕ) (top r : ℕ) (stop : Option ℕ) → 0 < top → top ≤ length path → p < length ls → touches (line_at ls p) x ≡ true
-      → other_end (line_at ls p) x ≡ c
-      → MatchOption stop (among (c ∷ stops ls c (drop top path)) x ≡ false)
-      (λ i. (top ≤ i) × (i ≤ length path) × ((Q : ℕ → Bool) (b : ℕ) → Way ls Q c b (drop top path) → Way ls Q x b (drop i path)))
-      → MatchOption stop (r ≡ top - 1) (λ i. r ≡ i)
-      → (r ≤ length path) × (top ≤ suc r)
-      × ((Q : ℕ → Bool) (b : ℕ) → Q p ≡ true → Way ls Q c b (drop top path) → Way ls Q x b (drop r (set path (top - 1) p)))
-  way_extended x c p path top r None pos within l t e met at = (
-    omega arith,
-    omega arith,
-    λ Q b q w. subst (λ j. Way ls Q x b (drop j (set path (top - 1) p))) (sym at) (way_put Q x c b p path top pos within l t e q met w),
-  )
-  way_extended x c p path top r (Some i) pos within l t e met at = (
-    omega (arith, met.1, at),
-    omega (arith, met.0, at),
-    λ Q b q w. subst (λ ys. Way ls Q x b ys) (ap (λ j. drop j path) (sym at) ∙ sym (drop-set-lt r path (top - 1) p (omega (arith, met.0, at)))) (met.2 Q b w),
-  )
+  pub way_extended : (x c p : ℕ) (path chain : List ℕ) (top r : ℕ) (stop : Option ℕ) → chain ≡ drop top path → 0 < top → top ≤ length path
+      → p < length ls → touches (line_at ls p) x ≡ true → other_end (line_at ls p) x ≡ c
+      → MatchOption stop (among (c ∷ stops ls c chain) x ≡ false)
+      (λ i. (i ≤ length chain) × ((Q : ℕ → Bool) (b : ℕ) → Way ls Q c b chain → Way ls Q x b (drop i chain)))
+      → MatchOption stop (r ≡ top - 1) (λ i. r ≡ top + i)
+      → (Q : ℕ → Bool) (b : ℕ) → Q p ≡ true → Way ls Q c b (drop top path) → Way ls Q x b (drop r (set path (top - 1) p))
+  way_extended x c p path chain top r None is pos within l t e met at Q b q w =
+      subst (λ j. Way ls Q x b (drop j (set path (top - 1) p))) (sym at)
+      (way_put Q x c b p path top pos within l t e q (ap (λ ys. among (c ∷ stops ls c ys) x) (sym is) ∙ met) w)
+  way_extended x c p path chain top r (Some i) is pos within l t e met at Q b q w =
+      subst (λ ys. Way ls Q x b ys)
+      (ap (drop i) is ∙ drop-drop i top path ∙ ap (λ j. drop j path) (sym at) ∙ sym (drop-set-lt r path (top - 1) p (omega (arith, at))))
+      (met.1 Q b (subst (λ ys. Way ls Q c b ys) (sym is) w))

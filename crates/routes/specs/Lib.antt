@@ -1,4 +1,5 @@
 pub mod Taking
 pub mod Shapes
+pub mod Ends
 pub mod Walks
 pub mod Draws

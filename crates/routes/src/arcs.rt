@@ -2,51 +2,46 @@
 
 ghost use Rattle.std.specs.Prelude.{◌≡◌, ◌==◌, nat_eq};
 ghost use Rattle.network.specs.Routes.{other_end};
-ghost use Rattle.network.specs.Flow.{leaves, arrives};
-ghost use Rattle.routes.specs.Walks.{source_of};
+ghost use Rattle.routes.specs.Ends.{counts_at, carried_at};
 
 use network::Line;
 
-/// Whether the line carries to the place.
-pub fn comes_to(line: &Line, mark: u8, place: usize) -> bool
-    ensures { result ≡ (arrives (nat_eq place) line.now mark == 1) }
+/// The ends of a line that carries: where it comes from, and where it leads.
+#[derive(Clone, Copy)]
+pub enum End {
+    From,
+    To,
+}
+
+/// Whether the line carries, with this end at the place.
+pub fn carries_at(end: End, line: &Line, mark: u8, place: usize) -> bool
+    ensures { result ≡ (counts_at end (nat_eq place) line.now mark == 1) }
 {
-    match mark {
-        1 => place == line.second as usize,
-        2 => place == line.first as usize,
+    match (mark, end) {
+        (1, End::From) | (2, End::To) => place == usize::from(line.first),
+        (2, End::From) | (1, End::To) => place == usize::from(line.second),
         _ => false,
     }
 }
 
-/// Whether the line carries away from the place.
-pub fn goes_from(line: &Line, mark: u8, place: usize) -> bool
-    ensures { result ≡ (leaves (nat_eq place) line.now mark == 1) }
+/// How many lines carry with this end at the place.
+pub fn carried_at(end: End, lines: &[Line], marks: &[u8], place: usize) -> usize
+    ensures { result ≡ carried_at end (nat_eq place) lines.now marks.now }
 {
-    match mark {
-        1 => place == line.first as usize,
-        2 => place == line.second as usize,
-        _ => false,
-    }
-}
-
-/// Where a line that carries comes from.
-pub fn source(line: &Line, mark: u8) -> usize
-    ensures { result ≡ source_of line.now mark }
-{
-    if mark == 1 {
-        line.first as usize
-    } else {
-        line.second as usize
-    }
+    lines
+        .iter()
+        .zip(marks)
+        .filter(|(line, mark)| carries_at(end, line, **mark, place))
+        .count()
 }
 
 /// Where the line leads from the place.
 pub fn far_end(line: &Line, place: usize) -> usize
     ensures { result ≡ other_end line.now place }
 {
-    if line.first as usize == place {
-        line.second as usize
+    if usize::from(line.first) == place {
+        usize::from(line.second)
     } else {
-        line.first as usize
+        usize::from(line.first)
     }
 }

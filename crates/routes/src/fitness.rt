@@ -1,123 +1,85 @@
 //! Whether marks carry a value from one place to another.
 
-ghost use Rattle.std.specs.Prelude.{◌≡◌, ◌+◌, ◌<◌, ◌≤◌, true, false, length, Decides, nat_eq};
-ghost use Rattle.network.specs.Lines.{AllJoin};
-ghost use Rattle.network.specs.Flow.{outs, ins, Balanced, Marked, AllMarked};
+ghost use Rattle.std.specs.Prelude.{◌≡◌, ◌<◌, ◌≤◌, ◌↔◌, length, IsTrue, IfSome, IfNone};
+ghost use Rattle.network.specs.Flow.{Balanced, Marked, AllMarked};
 ghost use Rattle.routes.specs.Taking.{Fit};
 ghost use Rattle.routes.specs.Shapes.{Shaped, BalancedAt};
 
-use crate::arcs::{comes_to, goes_from};
-use network::Line;
+use crate::arcs::{End, carried_at};
+use crate::marking::Marking;
+use network::{Line, Network};
+
+impl<'a> Marking<'a> {
+    /// The network of these sites and lines, where the marks carry `value` from `a` to `b` and `k` is no more, so that
+    /// routes can be taken.
+    pub(crate) fn fit_network(&self, k: usize) -> Option<Network<'a>>
+        ensures of { IfSome result (λ n. (n.sites ≡ self.now.sites) × (n.lines.now ≡ self.now.lines.now)) }
+        ensures fit { IfSome result (λ n. Fit self.now.sites self.now.lines.now self.now.marks.now self.now.a self.now.b self.now.value k) }
+        ensures none { IfNone result (Fit self.now.sites self.now.lines.now self.now.marks.now self.now.a self.now.b self.now.value k → ⊥) }
+    {
+        let net = Network::new(self.sites, self.lines)?;
+        if self.is_fit(&net, k) {
+            Some(net)
+        } else {
+            None
+        }
+    }
+
+    /// Whether the marks carry `value` from `a` to `b` over the lines of the network, and `k` is no more.
+    fn is_fit(&self, net: &Network<'_>, k: usize) -> bool
+        ensures { IsTrue result ↔ Fit net.now.sites net.now.lines.now self.now.marks.now self.now.a self.now.b self.now.value k }
+    {
+        self.is_shaped(net, k) && self.all_marked(net) && self.all_balance(net)
+    }
+
+    /// What can be said of the call without a look at the marks.
+    fn is_shaped(&self, net: &Network<'_>, k: usize) -> bool
+        ensures { IsTrue result ↔ Shaped net.now.sites net.now.lines.now self.now.marks.now self.now.a self.now.b self.now.value k }
+    {
+        net.lines.len() <= self.marks.len()
+            && self.a < net.sites
+            && self.b < net.sites
+            && self.a != self.b
+            && k <= self.value
+            && self.value <= net.lines.len()
+    }
+
+    /// Whether each line has a mark that it may have.
+    fn all_marked(&self, net: &Network<'_>) -> bool
+        ensures { IsTrue result ↔ AllMarked net.now.lines.now self.now.marks.now }
+    {
+        net.lines
+            .iter()
+            .zip(self.marks)
+            .all(|(line, mark)| may_have(line, *mark))
+    }
+
+    /// Whether each place has the balance that it has where `value` goes from `a` to `b`.
+    fn all_balance(&self, net: &Network<'_>) -> bool
+        requires small { self.now.value ≤ length net.now.lines.now }
+        requires a_within { self.now.a < net.now.sites }
+        requires b_within { self.now.b < net.now.sites }
+        ensures { IsTrue result ↔ Balanced net.now.lines.now self.now.marks.now self.now.a self.now.b self.now.value }
+    {
+        (0..net.sites).all(|place| self.balances(net, place))
+    }
+
+    /// Whether what leaves the place and what comes to it differ as they do where `value` goes from `a` to `b`.
+    fn balances(&self, net: &Network<'_>, place: usize) -> bool
+        requires { self.now.value ≤ length net.now.lines.now }
+        ensures { IsTrue result ↔ BalancedAt net.now.lines.now self.now.marks.now self.now.a self.now.b self.now.value place }
+    {
+        let leaving = carried_at(End::From, net.lines, self.marks, place);
+        let arriving = carried_at(End::To, net.lines, self.marks, place);
+        let ended = if place == self.b { self.value } else { 0 };
+        let begun = if place == self.a { self.value } else { 0 };
+        leaving + ended == arriving + begun
+    }
+}
 
 /// Whether the line may have the mark.
 fn may_have(line: &Line, mark: u8) -> bool
-    ensures { Decides result (Marked line.now mark) }
+    ensures { IsTrue result ↔ Marked line.now mark }
 {
     mark <= 2 && (mark == 0 || line.is_free())
-}
-
-/// Whether each line joins two different places and has a mark that it may have.
-fn all_sound(sites: usize, lines: &[Line], marks: &[u8]) -> bool
-    requires { length lines.now ≤ length marks.now }
-    ensures { Decides result (AllJoin sites lines.now × AllMarked lines.now marks.now) }
-{
-    for p in 0..lines.len() {
-        if !lines[p].joins(sites) || !may_have(&lines[p], marks[p]) {
-            return false;
-        }
-    }
-    true
-}
-
-/// How many lines carry away from the place, and how many carry to it.
-fn carried_at(lines: &[Line], marks: &[u8], place: usize) -> (usize, usize)
-    requires { length lines.now ≤ length marks.now }
-    ensures leaving { result.0 ≡ outs (nat_eq place) lines.now marks.now }
-    ensures arriving { result.1 ≡ ins (nat_eq place) lines.now marks.now }
-{
-    let mut leaving = 0;
-    let mut arriving = 0;
-    for p in 0..lines.len() {
-        if goes_from(&lines[p], marks[p], place) {
-            leaving += 1;
-        }
-        if comes_to(&lines[p], marks[p], place) {
-            arriving += 1;
-        }
-    }
-    (leaving, arriving)
-}
-
-/// Whether what leaves the place and what comes to it differ as they do where `value` goes from `a` to `b`.
-fn balances(lines: &[Line], marks: &[u8], a: usize, b: usize, value: usize, place: usize) -> bool
-    requires few { length lines.now ≤ 512 }
-    requires room { length lines.now ≤ length marks.now }
-    requires small { value ≤ length lines.now }
-    ensures { Decides result (BalancedAt lines.now marks.now a b value place) }
-{
-    let (leaving, arriving) = carried_at(lines, marks, place);
-    let ended = if place == b { value } else { 0 };
-    let begun = if place == a { value } else { 0 };
-    leaving + ended == arriving + begun
-}
-
-/// Whether the marks carry `value` from `a` to `b`.
-fn all_balance(sites: usize, lines: &[Line], marks: &[u8], a: usize, b: usize, value: usize) -> bool
-    requires few { length lines.now ≤ 512 }
-    requires room { length lines.now ≤ length marks.now }
-    requires small { value ≤ length lines.now }
-    requires a_within { a < sites }
-    requires b_within { b < sites }
-    requires joined { AllJoin sites lines.now }
-    ensures { Decides result (Balanced lines.now marks.now a b value) }
-{
-    for place in 0..sites {
-        if !balances(lines, marks, a, b, value, place) {
-            return false;
-        }
-    }
-    true
-}
-
-/// What can be said of the call without a look at the lines.
-fn is_shaped(
-    sites: usize,
-    lines: &[Line],
-    marks: &[u8],
-    a: usize,
-    b: usize,
-    value: usize,
-    k: usize,
-) -> bool
-    ensures { Decides result (Shaped sites lines.now marks.now a b value k) }
-{
-    sites <= 64
-        && lines.len() <= 512
-        && lines.len() <= marks.len()
-        && a < sites
-        && b < sites
-        && a != b
-        && k <= value
-        && value <= lines.len()
-}
-
-/// Whether routes can be taken: the marks carry `value` from `a` to `b`, and `k` is no more.
-pub fn is_fit(
-    sites: usize,
-    lines: &[Line],
-    marks: &[u8],
-    a: usize,
-    b: usize,
-    value: usize,
-    k: usize,
-) -> bool
-    ensures { Decides result (Fit sites lines.now marks.now a b value k) }
-{
-    if !is_shaped(sites, lines, marks, a, b, value, k) {
-        return false;
-    }
-    if !all_sound(sites, lines, marks) {
-        return false;
-    }
-    all_balance(sites, lines, marks, a, b, value)
 }

@@ -4,7 +4,9 @@
 
 mod arcs;
 mod fitness;
+mod marking;
 mod taking;
 mod walking;
 
+pub use marking::Marking;
 pub use taking::take_routes;

@@ -3,12 +3,14 @@
 ghost use Rattle.std.specs.Prelude.{◌≡◌, ℕ, ◌+◌, ◌-◌, ◌<◌, ◌≤◌, List, ◌++◌, length, drop, MatchOption, slice_set};
 ghost use Rattle.network.specs.Flow.{Balanced};
 ghost use Rattle.routes.specs.Taking.{Fit, listed, Chosen, Taken};
-ghost use Rattle.routes.specs.Walks.{NoLoops};
 ghost use Rattle.routes.specs.Draws.{Drawn};
 
-use crate::fitness::is_fit;
+use crate::marking::Marking;
 use crate::walking::walk;
-use network::Line;
+use network::{MOST_LINES, Network};
+
+/// The most numbers that routes are written in: each line is on one route, and each route has a line and a count.
+const MOST_NUMBERS: usize = 2 * MOST_LINES;
 
 /// Puts the count of the lines from `start` up to `top` before them, and answers where it stands.
 fn put_count(store: &mut [u16], start: usize, top: usize) -> usize
@@ -25,40 +27,38 @@ fn put_count(store: &mut [u16], start: usize, top: usize) -> usize
 
 /// Takes `k` routes out of the lines that carry. They stand in `store` from the answered place on, each as its count of
 /// lines and then its lines.
-fn draw(lines: &[Line], left: &mut [u8], a: usize, b: usize, k: usize, store: &mut [u16]) -> usize
-    requires few { length lines.now ≤ 512 }
-    requires room { length lines.now ≤ length left.old }
-    requires space { k + length lines.now ≤ length store.old }
-    requires joined { NoLoops lines.now }
-    requires flows { (v : ℕ) × (k ≤ v) × Balanced lines.now left.old a b v }
-    ensures { (rs : List (List ℕ)) × Drawn lines.now left.old left.new a b k rs store.new result }
+fn draw(
+    net: &Network<'_>,
+    left: &mut [u8],
+    a: usize,
+    b: usize,
+    k: usize,
+    store: &mut [u16],
+) -> usize
+    requires room { length net.now.lines.now ≤ length left.old }
+    requires space { k + length net.now.lines.now ≤ length store.old }
+    requires flows { (v : ℕ) × (k ≤ v) × Balanced net.now.lines.now left.old a b v }
+    ensures { (rs : List (List ℕ)) × Drawn net.now.lines.now left.old left.new a b k rs store.new result }
 {
     let mut top = store.len();
     for _done in 0..k {
-        let start = walk(lines, left, a, b, &mut store[0..top]);
+        let start = walk(net, left, a, b, &mut store[0..top]);
         top = put_count(store, start, top);
     }
     top
 }
 
 /// Takes `k` routes out of marks that carry as many, by way of a copy of the marks.
-fn choose(
-    lines: &[Line],
-    marks: &[u8],
-    a: usize,
-    b: usize,
-    k: usize,
-    left: &mut [u8],
-    store: &mut [u16],
-) -> usize
-    requires fit { (n v : ℕ) × Fit n lines.now marks.now a b v k }
-    requires room { length left.old ≡ length lines.now }
-    requires space { k + length lines.now ≤ length store.old }
+fn choose(net: &Network<'_>, marking: &Marking<'_>, k: usize, store: &mut [u16]) -> usize
+    requires fit { Fit net.now.sites net.now.lines.now marking.now.marks.now marking.now.a marking.now.b marking.now.value k }
+    requires space { k + length net.now.lines.now ≤ length store.old }
     ensures within { result ≤ length store.new }
-    ensures chosen { (rs : List (List ℕ)) × Chosen lines.now marks.now a b k rs × (drop result store.new ≡ listed rs) }
+    ensures chosen { (rs : List (List ℕ)) × Chosen net.now.lines.now marking.now.marks.now marking.now.a marking.now.b k rs × (drop result store.new ≡ listed rs) }
 {
-    left.copy_from_slice(&marks[0..lines.len()]);
-    draw(lines, left, a, b, k, store)
+    let mut room = [0; MOST_LINES];
+    let left = &mut room[0..net.lines.len()];
+    left.copy_from_slice(&marking.marks[0..net.lines.len()]);
+    draw(net, left, marking.a, marking.b, k, store)
 }
 
 /// Writes the numbers at the front of the list, where it is long enough.
@@ -74,48 +74,14 @@ fn put(numbers: &[u16], list: &mut [u16]) -> Option<usize>
     Some(count)
 }
 
-/// `take_routes` with the room that it works in.
-fn take_with(
-    sites: usize,
-    lines: &[Line],
-    marks: &[u8],
-    a: usize,
-    b: usize,
-    value: usize,
-    k: usize,
-    left: &mut [u8],
-    store: &mut [u16],
-    list: &mut [u16],
-) -> Option<usize>
-    requires marks_room { 512 ≤ length left.old }
-    requires room { 1024 ≤ length store.old }
-    ensures { Taken sites lines.now marks.now a b value k list.old list.new result }
-{
-    if !is_fit(sites, lines, marks, a, b, value, k) {
-        return None;
-    }
-    let top = choose(lines, marks, a, b, k, &mut left[0..lines.len()], store);
-    put(&store[top..], list)
-}
-
 /// Takes `k` separate routes of free lines from place `a` to place `b` out of marks that carry `value` from `a` to `b`,
 /// and writes each as its count of lines and then their positions. It answers how many numbers were written, or nothing
 /// where the marks are no such marks, `k` is more than `value`, or the list is too short.
-pub fn take_routes(
-    sites: usize,
-    lines: &[Line],
-    marks: &[u8],
-    a: usize,
-    b: usize,
-    value: usize,
-    k: usize,
-    list: &mut [u16],
-) -> Option<usize>
-    ensures { Taken sites lines.now marks.now a b value k list.old list.new result }
+pub fn take_routes(marking: &Marking<'_>, k: usize, list: &mut [u16]) -> Option<usize>
+    ensures { Taken marking.now.sites marking.now.lines.now marking.now.marks.now marking.now.a marking.now.b marking.now.value k list.old list.new result }
 {
-    let mut left = [0u8; 512];
-    let mut store = [0u16; 1024];
-    take_with(
-        sites, lines, marks, a, b, value, k, &mut left, &mut store, list,
-    )
+    let net = marking.fit_network(k)?;
+    let mut store = [0; MOST_NUMBERS];
+    let top = choose(&net, marking, k, &mut store);
+    put(&store[top..], list)
 }

@@ -5,61 +5,47 @@ ghost use Rattle.network.specs.Lines.{line_at};
 ghost use Rattle.network.specs.Lists.{among};
 ghost use Rattle.network.specs.Routes.{chained, stops, touches, other_end};
 ghost use Rattle.network.specs.Flow.{mark_at, arrives, ins, Balanced};
-ghost use Rattle.routes.specs.Walks.{carriers, NoLoops, Way, Back};
+ghost use Rattle.routes.specs.Walks.{carriers, Way, Back};
 
-use crate::arcs::{comes_to, far_end, source};
-use network::Line;
+use crate::arcs::{End, carries_at, far_end};
+use network::{Line, Network};
 
 /// A line that carries to the place, where there is one.
 fn arriving(lines: &[Line], left: &[u8], place: usize) -> usize
-    requires room { length lines.now ≤ length left.now }
-    requires some { 0 < ins (nat_eq place) lines.now left.now }
+    requires { 0 < ins (nat_eq place) lines.now left.now }
     ensures inside { result < length lines.now }
     ensures comes { arrives (nat_eq place) (line_at lines.now result) (mark_at left.now result) ≡ 1 }
 {
-    for p in 0..lines.len() {
-        if comes_to(&lines[p], left[p], place) {
-            return p;
-        }
-    }
-    unreachable()
+    lines
+        .iter()
+        .zip(left)
+        .position(|(line, mark)| carries_at(End::To, line, *mark, place))
+        .unwrap()
 }
 
-/// Where the chain `path[top..]` from the place `start` comes to `place`: from there on it leads from `place`.
-fn find_stop(lines: &[Line], path: &[u16], top: usize, start: usize, place: usize) -> Option<usize>
-    requires within { top ≤ length path.now }
-    requires linked { chained lines.now start (drop top path.now) ≡ true }
-    ensures { MatchOption result (among (start ∷ stops lines.now start (drop top path.now)) place ≡ false)
-        (λ i. (top ≤ i) × (i ≤ length path.now) × ((Q : ℕ → Bool) (b : ℕ) → Way lines.now Q start b (drop top path.now) → Way lines.now Q place b (drop i path.now))) }
+/// Where the chain from the place `start` comes to `place`: from there on it leads from `place`.
+fn find_stop(lines: &[Line], chain: &[u16], start: usize, place: usize) -> Option<usize>
+    requires { chained lines.now start chain.now ≡ true }
+    ensures { MatchOption result (among (start ∷ stops lines.now start chain.now) place ≡ false)
+        (λ i. (i ≤ length chain.now) × ((Q : ℕ → Bool) (b : ℕ) → Way lines.now Q start b chain.now → Way lines.now Q place b (drop i chain.now))) }
 {
     let mut stop = start;
-    for i in top..path.len() {
+    for (i, line) in chain.iter().enumerate() {
         if stop == place {
             return Some(i);
         }
-        stop = far_end(&lines[path[i] as usize], stop);
+        stop = far_end(&lines[usize::from(*line)], stop);
     }
     if stop == place {
-        Some(path.len())
+        Some(chain.len())
     } else {
         None
     }
 }
 
-/// Where a chain begins that was made longer at its front: where it came to its new first place already, if it did, so
-/// that the loop is left out.
-fn cut_back(stop: Option<usize>, top: usize) -> usize
-    ensures { MatchOption stop (result ≡ top) (λ i. result ≡ i) }
-{
-    match stop {
-        Some(i) => i,
-        None => top,
-    }
-}
-
 /// Puts the line before the chain `path[top..]`, so that it leads from `place`, and leaves out a loop that this makes.
 fn extend(
-    lines: &[Line],
+    net: &Network<'_>,
     path: &mut [u16],
     top: usize,
     start: usize,
@@ -68,18 +54,17 @@ fn extend(
 ) -> usize
     requires within { top ≤ length path.old }
     requires space { 0 < top }
-    requires few { length lines.now ≤ 512 }
-    requires inside { line < length lines.now }
-    requires touching { touches (line_at lines.now line) place ≡ true }
-    requires leading { other_end (line_at lines.now line) place ≡ start }
-    requires linked { chained lines.now start (drop top path.old) ≡ true }
+    requires inside { line < length net.now.lines.now }
+    requires touching { touches (line_at net.now.lines.now line) place ≡ true }
+    requires leading { other_end (line_at net.now.lines.now line) place ≡ start }
+    requires linked { chained net.now.lines.now start (drop top path.old) ≡ true }
     ensures within { result ≤ length path.old }
     ensures longer { top ≤ suc result }
-    ensures led { (Q : ℕ → Bool) (b : ℕ) → Q line ≡ true → Way lines.now Q start b (drop top path.old) → Way lines.now Q place b (drop result path.new) }
+    ensures led { (Q : ℕ → Bool) (b : ℕ) → Q line ≡ true → Way net.now.lines.now Q start b (drop top path.old) → Way net.now.lines.now Q place b (drop result path.new) }
 {
-    let stop = find_stop(lines, path, top, start, place);
+    let stop = find_stop(net.lines, &path[top..], start, place);
     path[top - 1] = line as u16;
-    cut_back(stop, top - 1)
+    stop.map_or(top - 1, |i| top + i)
 }
 
 /// Takes the line out of those that still carry.
@@ -91,21 +76,19 @@ fn take_out(left: &mut [u8], line: usize)
 }
 
 /// Takes one route from `a` to `b` out of the lines that still carry. It stands in `path` from the answered place on.
-pub fn walk(lines: &[Line], left: &mut [u8], a: usize, b: usize, path: &mut [u16]) -> usize
-    requires few { length lines.now ≤ 512 }
-    requires room { length lines.now ≤ length left.old }
-    requires space { carriers lines.now left.old ≤ length path.old }
-    requires joined { NoLoops lines.now }
-    requires flows { (v : ℕ) × Balanced lines.now left.old a b (suc v) }
-    ensures { Back lines.now left.old left.new a b a path.new result }
+pub fn walk(net: &Network<'_>, left: &mut [u8], a: usize, b: usize, path: &mut [u16]) -> usize
+    requires room { length net.now.lines.now ≤ length left.old }
+    requires space { carriers net.now.lines.now left.old ≤ length path.old }
+    requires flows { (v : ℕ) × Balanced net.now.lines.now left.old a b (suc v) }
+    ensures { Back net.now.lines.now left.old left.new a b a path.new result }
 {
     let mut top = path.len();
     let mut place = b;
     'back: while place != a {
-        let line = arriving(lines, left, place);
-        let before = source(&lines[line], left[line]);
+        let line = arriving(net.lines, left, place);
+        let before = far_end(&net.lines[line], place);
         take_out(left, line);
-        top = extend(lines, path, top, place, line, before);
+        top = extend(net, path, top, place, line, before);
         place = before;
     }
     top

@@ -3,4 +3,4 @@ use Rattle.cuttree.proofs.builder.+grow.Given as goal
 
 -- both parts of a pair have fewer places than the pair
 abbrev pub decreases-grow : goal.decreases-grow
-decreases-grow g l = size_below l.sites l.pending.available
+decreases-grow g l = size_below l.net.now.sites l.pending.available

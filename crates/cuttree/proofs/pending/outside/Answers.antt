@@ -1,6 +1,6 @@
-use Rattle.network.proofs.Members.{member_and}
-use Rattle.cuttree.proofs.Pairs.{member_rest}
+use Rattle.std.proofs.Common.{arith}
+use Rattle.network.proofs.Digits.{member_without}
 use Rattle.cuttree.proofs.pending.outside.Goals as goal
 
 pub returns : goal.returns
-returns c x = member_rest c.args.available _ c.args.side x (member_and c.args.available c.args.side x)
+returns c x = member_without c.args.available c.args.side x (omega arith) (omega arith)

@@ -7,7 +7,7 @@ use Rattle.routes.proofs.taking.draw.Goals.{After-walk-start}
 
 pub loop-done-init : goal.loop-done-init
 loop-done-init c = (
-  ([], drawn_none c.args.lines.now c.args.left.now c.args.a c.args.b c.args.store.now),
+  ([], drawn_none c.args.net.now.lines.now c.args.left.now c.args.a c.args.b c.args.store.now),
   (c.requires.flows.0, omega (arith, c.requires.flows.1), c.requires.flows.2),
 )
 
@@ -18,11 +18,9 @@ pub walk-start-requires : goal.walk-start-requires
 walk-start-requires c =
     let v = c.loop-done.invariant.1.0 in
     record {
-      few = c.requires.few;
       room = omega arith;
       space = simp length-take (omega (arith, c.loop-done.invariant.0.1.fewer, c.loop-done.invariant.0.1.within, c.requires.space));
-      joined = c.requires.joined;
-      flows = (v - 1, to_spend c.args.lines.now c.loop-done.left c.args.a c.args.b v (omega (arith, c.loop-done.invariant.1.1)) c.loop-done.invariant.1.2);
+      flows = (v - 1, to_spend c.args.net.now.lines.now c.loop-done.left c.args.a c.args.b v (omega (arith, c.loop-done.invariant.1.1)) c.loop-done.invariant.1.2);
     }
 
 -- the part of the store that the walk is given
@@ -31,13 +29,13 @@ size c = c.walk-start.auto.path ∙ simp length-take (omega (arith, c.loop-done.
 
 room : (c : After-walk-start) → 0 < c.walk-start.result
 room c =
-    drawn_room c.args.lines.now c.args.left.now c.loop-done.left c.walk-start.new.left c.args.a c.args.b c.loop-done._done
+    drawn_room c.args.net.now.lines.now c.args.left.now c.loop-done.left c.walk-start.new.left c.args.a c.args.b c.loop-done._done
     c.loop-done.invariant.0.0 c.loop-done.store c.loop-done.top c.walk-start.new.path c.walk-start.result c.loop-done.invariant.0.1 c.walk-start.ensures (size c)
     (omega (arith, c.requires.space))
 
-count : (c : After-walk-start) → c.loop-done.top - c.walk-start.result ≤ length c.args.lines.now
+count : (c : After-walk-start) → c.loop-done.top - c.walk-start.result ≤ length c.args.net.now.lines.now
 count c =
-    drawn_count c.args.lines.now c.args.left.now c.loop-done.left c.walk-start.new.left c.args.a c.args.b c.loop-done._done
+    drawn_count c.args.net.now.lines.now c.args.left.now c.loop-done.left c.walk-start.new.left c.args.a c.args.b c.loop-done._done
     c.loop-done.invariant.0.0 c.loop-done.store c.loop-done.top c.walk-start.new.path c.walk-start.result c.loop-done.invariant.0.1 c.walk-start.ensures (size c)
 
 pub put_count-top-requires : goal.put_count-top-requires
@@ -47,7 +45,7 @@ put_count-top-requires c =
       some = room here;
       order = omega (arith, c.walk-start.ensures.within, size here);
       within = simp length-append (omega (arith, size here));
-      few = omega (arith, count here, c.requires.few);
+      few = omega (arith, count here, c.args.net.now.few_lines);
     }
 
 pub loop-done-preserved : goal.loop-done-preserved
@@ -56,14 +54,14 @@ loop-done-preserved c =
     let rs = drop c.walk-start.result c.walk-start.new.path ∷ c.loop-done.invariant.0.0 in (
       (
         rs,
-        drawn_by c.args.lines.now c.args.left.now c.loop-done.left c.walk-start.new.left c.args.a c.args.b c.loop-done._done
+        drawn_by c.args.net.now.lines.now c.args.left.now c.loop-done.left c.walk-start.new.left c.args.a c.args.b c.loop-done._done
             c.loop-done.invariant.0.0 c.loop-done.store c.loop-done.top c.walk-start.new.path c.walk-start.result c.loop-done.invariant.0.1 c.walk-start.ensures (size here)
             (c.loop-done.top - 0) c.put_count-top.new.store c.put_count-top.result (omega arith) (room here) c.put_count-top.ensures.after c.put_count-top.ensures.place,
       ),
       (
         c.loop-done.invariant.1.0 - 1,
         omega (arith, c.loop-done.invariant.1.1),
-        spent c.args.lines.now c.loop-done.left c.walk-start.new.left c.args.a c.args.b c.loop-done.invariant.1.0 c.walk-start.new.path c.walk-start.result
+        spent c.args.net.now.lines.now c.loop-done.left c.walk-start.new.left c.args.a c.args.b c.loop-done.invariant.1.0 c.walk-start.new.path c.walk-start.result
             (omega (arith, c.loop-done.invariant.1.1)) c.loop-done.invariant.1.2 c.walk-start.ensures,
       ),
     )
@@ -72,5 +70,5 @@ pub returns : goal.returns
 returns c =
     let e : c.loop-done._done ≡ c.args.k = omega arith in (
       c.loop-done.invariant.0.0,
-      subst (λ i. Drawn c.args.lines.now c.args.left.now c.loop-done.left c.args.a c.args.b i c.loop-done.invariant.0.0 c.loop-done.store c.loop-done.top) e c.loop-done.invariant.0.1,
+      subst (λ i. Drawn c.args.net.now.lines.now c.args.left.now c.loop-done.left c.args.a c.args.b i c.loop-done.invariant.0.0 c.loop-done.store c.loop-done.top) e c.loop-done.invariant.0.1,
     )
