@@ -1,6 +1,6 @@
 -- What the absence of a fault says of the bytes.
-use Rattle.std.proofs.Common.{◌≡◌, ℕ, ◌*◌, ◌%◌, ◌<◌, ◌≤◌, Bool, true, false, List, length, Some, None, Option, refl, arith}
-use Rattle.std.proofs.lemmas.Bool.{and_parts, leb-true, ltb-true, eqb-true}
+use Rattle.std.proofs.Common.{◌≡◌, ℕ, ◌*◌, ◌%◌, ◌≤◌, Bool, true, false, List, length, Some, None, Option, refl, arith}
+use Rattle.std.proofs.lemmas.Bool.{and_parts, leb-true, eqb-true}
 use Rattle.netfile.specs.Search.{or_else}
 use Rattle.netfile.specs.Layout.{site_offset, site_length, line_offset, line_length, site_end, line_end, site_count, line_count}
 use Rattle.netfile.specs.Meaning.{unless, carried, size_fault, signature_fault, edition_fault, pair_count_fault, parts_fault, lengths_fault, file_fault, rising_fault, ends_fault, first_fault}
@@ -58,21 +58,19 @@ bounded bs none =
     let l8 = and_parts _ _ (test_held _ _ l.0) in
     let l8' = and_parts _ _ l8.1 in
     let l12 = and_parts _ _ (test_held _ _ l.1) in
+    let l12' = and_parts _ _ l12.1 in
     let a : 14 ≤ length bs = leb-true _ _ s.0 in
-    let b : 0 < site_length bs = ltb-true _ _ l8.0 in
-    let c : site_length bs ≤ 512 = leb-true _ _ l8'.0 in
     let d : site_length bs % 8 ≡ 0 = eqb-true _ _ l8'.1 in
-    let e : line_length bs ≤ 3072 = leb-true _ _ l12.0 in
-    let f : line_length bs % 6 ≡ 0 = eqb-true _ _ l12.1 in
+    let f : line_length bs % 6 ≡ 0 = eqb-true _ _ l12'.1 in
     record {
       header = a;
       sites_from = leb-true _ _ p6.0;
       sites_to = leb-true _ _ p6.1;
       lines_from = leb-true _ _ p10.0;
       lines_to = leb-true _ _ p10.1;
-      some_site = omega arith;
-      few_sites = omega arith;
-      few_lines = omega arith;
+      some_site = leb-true _ _ l8.0;
+      few_sites = leb-true _ _ l8'.0;
+      few_lines = leb-true _ _ l12'.0;
       whole_sites = omega arith;
       whole_lines = omega arith;
     }

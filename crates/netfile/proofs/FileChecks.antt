@@ -1,6 +1,6 @@
 -- The file layer's checks, one by one: each finds its fault exactly where it applies.
-use Rattle.std.proofs.Common.{◌≡◌, ℕ, ◌%◌, ◌<◌, ◌≤◌, Bool, false, ◌&&◌, eqb, ltb, leb, ◌⊎◌, List, length, get_or, refl, inl, inr, arith}
-use Rattle.std.proofs.lemmas.Bool.{and_parts, and_cases, leb-true, leb-false, ltb-true, ltb-false, eqb-true, eqb-false, eq-eqb, and_from, both_ways}
+use Rattle.std.proofs.Common.{◌≡◌, ℕ, ◌/◌, ◌%◌, ◌<◌, ◌≤◌, Bool, false, ◌&&◌, eqb, leb, ◌⊎◌, List, length, get_or, refl, inl, inr, arith}
+use Rattle.std.proofs.lemmas.Bool.{cases_eq, and_parts, and_cases, leb-true, leb-false, eqb-true, eqb-false, eq-eqb, and_from, both_ways}
 use Rattle.netfile.specs.declared.faults.FileFault.{FileFault}
 use Rattle.netfile.specs.declared.faults.FileFault.TheVariants.{Size, Signature, Edition, PairCount, PartBounds, PartLength}
 use Rattle.netfile.specs.declared.faults.RecordFault.TheVariants.{File}
@@ -81,31 +81,41 @@ module _ (bs : List ℕ) where
 
   lengths_one : One At 7 (carried up (lengths_fault bs))
   lengths_one =
-      one_before At up 7 (ltb 0 (site_length bs) && (leb (site_length bs) 512 && eqb (site_length bs % 8) 0)) (PartLength 8) _
+      let n = site_length bs in
+      let m = line_length bs in
+      one_before At up 7 (leb 1 (n / 8) && (leb (n / 8) 64 && eqb (n % 8) 0)) (PartLength 8) _
       (λ e. let s = and_parts _ _ e in
       let t = and_parts _ _ s.1 in
-      let a : 0 < site_length bs = ltb-true _ _ s.0 in
-      let b : site_length bs ≤ 512 = leb-true _ _ t.0 in
-      let right : (q : ℕ) → (q ≡ 8) × ((site_length bs ≡ 0) ⊎ ((512 < site_length bs) ⊎ (site_length bs % 8 ≡ 0 → ⊥))) → ⊥ =
-      λ q x. elim x.1 [ inl y ↦ omega arith | inr y ↦ elim y [ inl z ↦ omega arith | inr z ↦ z (eqb-true _ _ t.1) ] ] in
-      one_unless At up 7 (leb (line_length bs) 3072 && eqb (line_length bs % 6) 0) (PartLength 12)
-      (λ f. let u = and_parts _ _ f in
-      let c : line_length bs ≤ 3072 = leb-true _ _ u.0 in
+      let a : 1 ≤ n / 8 = leb-true _ _ s.0 in
+      let b : n / 8 ≤ 64 = leb-true _ _ t.0 in
+      let c : n % 8 ≡ 0 = eqb-true _ _ t.1 in
+      let right : (q : ℕ) → (q ≡ 8) × ((n ≡ 0) ⊎ ((512 < n) ⊎ (n % 8 ≡ 0 → ⊥))) → ⊥ =
+      λ q x. elim x.1 [ inl y ↦ omega arith | inr y ↦ elim y [ inl z ↦ omega arith | inr z ↦ z c ] ] in
+      one_unless At up 7 (leb 0 (m / 6) && (leb (m / 6) 512 && eqb (m % 6) 0)) (PartLength 12)
+      (λ f. let u = and_parts _ _ (and_parts _ _ f).1 in
+      let g : m / 6 ≤ 512 = leb-true _ _ u.0 in
+      let h : m % 6 ≡ 0 = eqb-true _ _ u.1 in
       λ q x. elim x [
         | inl y ↦ right q y
-        | inr y ↦ elim y.1 [ inl z ↦ omega arith | inr z ↦ z (eqb-true _ _ u.1) ]
+        | inr y ↦ elim y.1 [ inl z ↦ omega (arith, g, z) | inr z ↦ z h ]
       ])
       (λ f. (
         refl,
-        inr (refl, failing _ _ f (λ u. inl (leb-false (line_length bs) 3072 u)) (λ u. inr (eqb-false _ _ u))),
+        inr (
+          refl,
+          failing _ _ f (λ u. let z : m / 6 < 0 = leb-false 0 (m / 6) u in absurd (omega arith))
+              (λ r. failing _ _ r (λ u. inl (let z : 512 < m / 6 = leb-false (m / 6) 512 u in omega arith)) (λ u. inr (eqb-false _ _ u))),
+        ),
         λ q l x. elim x [ inl y ↦ right q y | inr y ↦ omega (arith, y.0) ],
       )))
       (λ e. (
         refl,
         inl (
           refl,
-          failing _ _ e (λ t. inl (let z : site_length bs ≤ 0 = ltb-false 0 (site_length bs) t in omega arith))
-              (λ r. failing _ _ r (λ t. inr (inl (leb-false (site_length bs) 512 t))) (λ t. inr (inr (eqb-false _ _ t)))),
+          failing _ _ e
+              (λ t. let z : n / 8 < 1 = leb-false 1 (n / 8) t in
+              elim (cases_eq n 0) [ inl none ↦ inl none | inr some ↦ inr (inr (λ w. omega arith)) ])
+              (λ r. failing _ _ r (λ t. inr (inl (let z : 64 < n / 8 = leb-false (n / 8) 64 t in omega arith))) (λ t. inr (inr (eqb-false _ _ t)))),
         ),
         λ q l x. elim x [ inl y ↦ omega (arith, y.0) | inr y ↦ omega (arith, y.0) ],
       ))

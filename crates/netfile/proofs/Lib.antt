@@ -2,7 +2,6 @@ pub mod Lowest
 pub mod Rising
 pub mod Numbers
 pub mod Accepted
-pub mod Ends
 pub mod Tables
 pub mod Chain
 pub mod FileChecks
@@ -10,3 +9,6 @@ pub mod RecordChecks
 pub mod NetworkChecks
 pub mod FaultLaws
 pub mod Networks
+pub mod Chunks
+pub mod Head
+pub mod PartFaults

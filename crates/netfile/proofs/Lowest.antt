@@ -1,6 +1,7 @@
 -- The lowest position at which a test holds.
-use Rattle.std.proofs.Common.{◌≡◌, ℕ, zero, suc, ◌<◌, Bool, true, false, Some, None, sym, refl, subst, inl, inr, arith}
+use Rattle.std.proofs.Common.{◌≡◌, ℕ, zero, suc, ◌<◌, ◌≤◌, Bool, true, false, Some, None, Option, List, length, get_or, MatchOption, sym, refl, subst, inl, inr, arith}
 use Rattle.std.proofs.lemmas.Bool.{cases_eq}
+use Rattle.std.specs.List.{AllWithin, HoldsAt}
 use Rattle.netfile.specs.Search.{lowest_where}
 
 -- the test holds at i, below n, and at no position before
@@ -25,6 +26,17 @@ module _ (P : ℕ → Bool) where
             let e' : P n ≡ true = subst (λ (m : ℕ). P m ≡ true) same e in rw (h', e', same)
         | inr other ↦ rw (lowest_first i n h e (omega arith))
       ]
+
+  -- a search that answers the first such position, or none, answers this
+  pub lowest_from : (n : ℕ) (r : Option ℕ) → MatchOption r ((k : ℕ) → k < n → P k ≡ false) (λ i. Lowest P n i) → r ≡ lowest_where P n
+  lowest_from n None h = sym (lowest_none n h)
+  lowest_from n (Some i) h = sym (lowest_first i n h.before h.here h.within)
+
+  -- .. over a range of numbers
+  pub lowest_in_range : (m n : ℕ) (r : Option ℕ) → m ≡ n → MatchOption r ((k : ℕ) → 0 ≤ k → k < m → P k ≡ false) (λ i. (0 ≤ i) × (i < m) × (P i ≡ true) × ((k : ℕ) → 0 ≤ k → k < i → P k ≡ false)) → r ≡ lowest_where P n
+  lowest_in_range m n None e h = lowest_from n None (λ k l. h k (omega arith) (omega (arith, e)))
+  lowest_in_range m n (Some i) e h =
+      lowest_from n (Some i) (record { within = omega (arith, h.1, e); here = h.2; before = λ k l. h.3 k (omega arith) l })
 
   -- either there is a lowest one or there is none
   pub data Found (n : ℕ) : Type 0 where
@@ -61,3 +73,15 @@ module _ (P : ℕ → Bool) where
             let z : ◌≡◌ {A = ℕ} 0 1 = cc in absurd (omega arith)
         | missing h ↦ h
       ]
+
+-- two tests that agree below n
+pub lowest_same : (P Q : ℕ → Bool) (n : ℕ) → ((k : ℕ) → k < n → P k ≡ Q k) → lowest_where P n ≡ lowest_where Q n
+unfolding lowest_where
+lowest_same P Q zero h = refl
+lowest_same P Q (suc n) h = rw (lowest_same P Q n (λ k l. h k (omega arith)), h n (omega arith))
+
+-- a search over a list that answers the first such position, or none
+pub lowest_in_list : {X : Type 0} (t : X → Bool) (xs : List X) (d : X) (r : Option ℕ) → MatchOption r (AllWithin (λ x. t x ≡ false) xs 0 (length xs)) (λ i. (i < length xs) × HoldsAt (λ x. t x ≡ true) xs i × AllWithin (λ x. t x ≡ false) xs 0 i) → r ≡ lowest_where (λ i. t (get_or xs i d)) (length xs)
+lowest_in_list t xs d None h = lowest_from (λ i. t (get_or xs i d)) (length xs) None (λ k l. h k d (omega arith) l)
+lowest_in_list t xs d (Some i) h =
+    lowest_from (λ i. t (get_or xs i d)) (length xs) (Some i) (record { within = h.0; here = h.1 d; before = λ k l. h.2 k d (omega arith) l })

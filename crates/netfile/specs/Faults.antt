@@ -1,5 +1,5 @@
--- The published number, layer and place of each fault.
-use Rattle.std.specs.Prelude.{ℕ}
+-- The published number, layer and place of each fault, and the names of the layers.
+use Rattle.std.specs.Prelude.{ℕ, List, codes}
 use Rattle.netfile.specs.declared.faults.Layer.{Layer}
 use Rattle.netfile.specs.declared.faults.Layer.TheVariants.{File as FileLayer, Record as RecordLayer, Network as NetworkLayer}
 use Rattle.netfile.specs.declared.faults.FileFault.{FileFault}
@@ -8,6 +8,11 @@ use Rattle.netfile.specs.declared.faults.RecordFault.{RecordFault}
 use Rattle.netfile.specs.declared.faults.RecordFault.TheVariants.{File, NotRising}
 use Rattle.netfile.specs.declared.faults.NetworkFault.{NetworkFault}
 use Rattle.netfile.specs.declared.faults.NetworkFault.TheVariants.{Record, Ends}
+
+abbrev pub layer_name : Layer → List ℕ
+layer_name FileLayer = codes "file"
+layer_name RecordLayer = codes "record"
+layer_name NetworkLayer = codes "network"
 
 abbrev pub file_number : FileFault → ℕ
 file_number Size = 2

@@ -1,5 +1,5 @@
 -- The layout of a network file: which bytes say what.
-use Rattle.std.specs.Prelude.{ℕ, ◌+◌, ◌*◌, ◌/◌, List, [], ◌∷◌, map, slice_index}
+use Rattle.std.specs.Prelude.{ℕ, ◌+◌, ◌*◌, ◌/◌, ◌≤◌, List, [], ◌∷◌, map, take, drop, slice_index}
 use Rattle.std.specs.List.{range_with_len}
 use Rattle.network.specs.declared.site.Site.{Site}
 
@@ -74,3 +74,21 @@ site_numbers bs = numbers_from bs (site_offset bs) 8 (site_count bs)
 
 abbrev pub line_numbers : List ℕ → List ℕ
 line_numbers bs = numbers_from bs (line_offset bs) 6 (line_count bs)
+
+-- a size that records have: two bytes at least, which are the number, and at most eight
+abbrev pub IsRecordSize : ℕ → Type 0
+IsRecordSize n = (2 ≤ n) × (n ≤ 8)
+
+-- the bytes of n records of one size that follow one another
+unfoldable pub records_from : List ℕ → ℕ → ℕ → ℕ → List (List ℕ)
+records_from bs start size n = map (λ i. take size (drop (start + size * i) bs)) (range_with_len 0 n)
+
+abbrev pub site_records : List ℕ → List (List ℕ)
+site_records bs = records_from bs (site_offset bs) 8 (site_count bs)
+
+abbrev pub line_records : List ℕ → List (List ℕ)
+line_records bs = records_from bs (line_offset bs) 6 (line_count bs)
+
+-- the numbers of records, each in the first two bytes of its record
+abbrev pub numbers_of : List (List ℕ) → List ℕ
+numbers_of rs = map (λ r. pair_at r 0) rs

@@ -1,5 +1,5 @@
 -- What a list of bytes means: the first fault in checking order, or the sites and lines of a network.
-use Rattle.std.specs.Prelude.{ℕ, ◌+◌, ◌*◌, ◌%◌, Bool, cond, not, ◌&&◌, List, map, length, is_some, Some, None, Ok, Err, Option, Result, ◌==◌, nat_le, nat_lt, slice_index}
+use Rattle.std.specs.Prelude.{ℕ, ◌+◌, ◌*◌, ◌/◌, ◌%◌, Bool, cond, not, ◌&&◌, List, map, length, is_some, Some, None, Ok, Err, Option, Result, ◌==◌, nat_le, slice_index}
 use Rattle.std.specs.List.{range_with_len}
 use Rattle.network.specs.declared.site.Site.{Site}
 use Rattle.network.specs.declared.line.Line.{Line}
@@ -55,12 +55,17 @@ parts_fault bs =
     or_else (bounds_fault 6 14 (site_offset bs) (site_length bs) (length bs))
     (bounds_fault 10 (site_end bs) (line_offset bs) (line_length bs) (length bs))
 
+-- n bytes are not those of as many records of one size as a part may have; the part's length stands at the place p
+abbrev pub length_fault : ℕ → ℕ → ℕ → ℕ → ℕ → Option FileFault
+length_fault p size fewest most n =
+    unless (nat_le fewest (n / size) && (nat_le (n / size) most && n % size == 0)) (PartLength p)
+
 -- one to 64 site records, and at most 512 line records
 abbrev pub site_length_fault : ℕ → Option FileFault
-site_length_fault n = unless (nat_lt 0 n && (nat_le n 512 && n % 8 == 0)) (PartLength 8)
+site_length_fault n = length_fault 8 8 1 64 n
 
 abbrev pub line_length_fault : ℕ → Option FileFault
-line_length_fault n = unless (nat_le n 3072 && n % 6 == 0) (PartLength 12)
+line_length_fault n = length_fault 12 6 0 512 n
 
 abbrev pub lengths_fault : List ℕ → Option FileFault
 lengths_fault bs = or_else (site_length_fault (site_length bs)) (line_length_fault (line_length bs))

@@ -1,6 +1,6 @@
 -- What the reader takes a line record for, and the line that it makes of it.
 use Rattle.std.specs.Prelude.{ℕ, ◌+◌, List}
-use Rattle.netfile.specs.declared.parts.LineRecord.{LineRecord}
+use Rattle.netfile.specs.declared.records.LineRecord.{LineRecord}
 use Rattle.network.specs.declared.line.Line.{Line}
 use Rattle.network.specs.declared.line.LineState.TheVariants.{Free}
 use Rattle.netfile.specs.Layout.{pair_at}

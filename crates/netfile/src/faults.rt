@@ -1,8 +1,10 @@
-ghost use Rattle.std.specs.Prelude.{◌≡◌};
-ghost use Rattle.netfile.specs.Faults.{number_of, layer_of, place_of};
+ghost use Rattle.std.specs.Prelude.{◌≡◌, Some};
+ghost use Rattle.netfile.specs.Faults.{layer_name, number_of, layer_of, place_of};
 ghost use Rattle.netfile.specs.Faults.{file_number, file_place, record_number, record_layer, record_place};
 ghost use Rattle.netfile.specs.declared.faults.NetworkFault.TheVariants.{Record};
 ghost use Rattle.netfile.specs.declared.faults.RecordFault.TheVariants.{File};
+
+use std::fmt;
 
 /// Which part of the reader a fault comes from.
 #[derive(Debug, Clone, Copy, PartialEq, Eq)]
@@ -10,6 +12,18 @@ pub enum Layer {
     File,
     Record,
     Network,
+}
+
+impl fmt::Display for Layer {
+    ghost output = { λ l. Some (layer_name l) };
+
+    fn fmt<W: fmt::Write>(&self, f: &mut fmt::Formatter<W>) -> fmt::Result {
+        f.write_str(match self {
+            Layer::File => "file",
+            Layer::Record => "record",
+            Layer::Network => "network",
+        })
+    }
 }
 
 /// What can be wrong with header and parts. A fault whose place is not fixed carries it: the first byte at fault.

@@ -1,124 +1,133 @@
-ghost use Rattle.std.specs.Prelude.{◌≡◌, ◌+◌, ◌≤◌, length, IfOk, OnOk};
-ghost use Rattle.netfile.specs.Layout.{site_end, line_end};
+ghost use Rattle.std.specs.Prelude.{◌≡◌, ◌/◌, ◌≤◌, length, take, IfOk, OnOk};
+ghost use Rattle.netfile.specs.Headers.{header_in};
+ghost use Rattle.netfile.specs.Layout.{IsRecordSize, records_from};
+ghost use Rattle.netfile.specs.Search.{or_else};
 ghost use Rattle.netfile.specs.Meaning.{fault_in, size_fault, signature_fault, edition_fault, pair_count_fault};
-ghost use Rattle.netfile.specs.Meaning.{bounds_fault, parts_fault, site_length_fault, line_length_fault, lengths_fault, file_fault};
+ghost use Rattle.netfile.specs.Meaning.{bounds_fault, parts_fault, length_fault, site_length_fault, line_length_fault, file_fault};
 
 use crate::faults::FileFault;
 use crate::header::{Extent, HEADER_BYTES, Header};
+use crate::parts::{Part, Parts};
+use crate::records::{LINE_BYTES, SITE_BYTES};
 
 /// The most bytes that a file has.
 const MOST_BYTES: usize = 8192;
 
-/// The most bytes that the site part has: 64 records.
-const MOST_SITE_BYTES: u16 = 512;
+/// The most records of the site part.
+const MOST_SITES: usize = 64;
 
-/// The most bytes that the line part has: 512 records.
-const MOST_LINE_BYTES: u16 = 3072;
+/// The most records of the line part.
+const MOST_LINES: usize = 512;
 
 /// The checks of header and parts, in their order.
-pub fn check_file(bytes: &[u8]) -> Result<(), FileFault>
+pub fn check_file(bytes: &[u8]) -> Result<Parts<'_>, FileFault>
     ensures fault { fault_in result ≡ file_fault bytes.now }
-    ensures header { OnOk result (14 ≤ length bytes.now) }
-    ensures sites { OnOk result (site_end bytes.now ≤ length bytes.now) }
-    ensures lines { OnOk result (line_end bytes.now ≤ length bytes.now) }
+    ensures lent { IfOk result (λ p. p.bytes.now ≡ bytes.now) }
 {
-    check_size(bytes)?;
-    check_signature(bytes)?;
-    check_edition(bytes)?;
-    check_pair_count(bytes)?;
-    check_parts(bytes)?;
-    check_lengths(bytes)
+    let first = check_size(bytes)?;
+    check_signature(first)?;
+    check_edition(first)?;
+    check_pair_count(first)?;
+    let header = Header::read(first);
+    let parts = check_parts(bytes, header)?;
+    check_lengths(header)?;
+    Ok(parts)
 }
 
-fn check_size(bytes: &[u8]) -> Result<(), FileFault>
+/// The bytes of the header, of a file that is neither too short nor too long.
+fn check_size(bytes: &[u8]) -> Result<&[u8; HEADER_BYTES], FileFault>
     ensures fault { fault_in result ≡ size_fault bytes.now }
-    ensures header { OnOk result (14 ≤ length bytes.now) }
+    ensures long { OnOk result (14 ≤ length bytes.now) }
+    ensures header { IfOk result (λ h. h.now ≡ take 14 bytes.now) }
 {
-    if bytes.len() < HEADER_BYTES || bytes.len() > MOST_BYTES {
-        return Err(FileFault::Size);
+    match bytes.first_chunk() {
+        Some(header) if bytes.len() <= MOST_BYTES => Ok(header),
+        _ => Err(FileFault::Size),
     }
-    Ok(())
 }
 
-fn check_signature(bytes: &[u8]) -> Result<(), FileFault>
-    requires { 14 ≤ length bytes.now }
-    ensures { fault_in result ≡ signature_fault bytes.now }
+fn check_signature(header: &[u8; HEADER_BYTES]) -> Result<(), FileFault>
+    ensures { fault_in result ≡ signature_fault header.now }
 {
-    match bytes {
+    match header {
         [b'L', b'N', b'E', b'T', ..] => Ok(()),
         _ => Err(FileFault::Signature),
     }
 }
 
-fn check_edition(bytes: &[u8]) -> Result<(), FileFault>
-    requires { 14 ≤ length bytes.now }
-    ensures { fault_in result ≡ edition_fault bytes.now }
+fn check_edition(header: &[u8; HEADER_BYTES]) -> Result<(), FileFault>
+    ensures { fault_in result ≡ edition_fault header.now }
 {
-    if bytes[4] != 1 {
+    if header[4] != 1 {
         return Err(FileFault::Edition);
     }
     Ok(())
 }
 
-fn check_pair_count(bytes: &[u8]) -> Result<(), FileFault>
-    requires { 14 ≤ length bytes.now }
-    ensures { fault_in result ≡ pair_count_fault bytes.now }
+fn check_pair_count(header: &[u8; HEADER_BYTES]) -> Result<(), FileFault>
+    ensures { fault_in result ≡ pair_count_fault header.now }
 {
-    if bytes[5] != 2 {
+    if header[5] != 2 {
         return Err(FileFault::PairCount);
     }
     Ok(())
 }
 
 /// Each part starts past the header and past the part before it, and ends within the file.
-fn check_parts(bytes: &[u8]) -> Result<(), FileFault>
-    requires { 14 ≤ length bytes.now }
+fn check_parts(bytes: &[u8], header: Header) -> Result<Parts<'_>, FileFault>
+    requires { header ≡ header_in bytes.now }
     ensures fault { fault_in result ≡ parts_fault bytes.now }
-    ensures sites { OnOk result (site_end bytes.now ≤ length bytes.now) }
-    ensures lines { OnOk result (line_end bytes.now ≤ length bytes.now) }
+    ensures lent { IfOk result (λ p. p.bytes.now ≡ bytes.now) }
 {
-    let header = Header::read(bytes);
-    let sites_end = check_bounds(6, HEADER_BYTES, header.sites, bytes.len())?;
-    check_bounds(10, sites_end, header.lines, bytes.len())?;
-    Ok(())
+    let sites = check_part::<SITE_BYTES>(bytes, 6, HEADER_BYTES, header.sites)?;
+    let lines = check_part::<LINE_BYTES>(bytes, 10, header.sites.end(), header.lines)?;
+    Ok(Parts {
+        bytes,
+        sites,
+        lines,
+    })
 }
 
-/// One part, whose pair stands at `place`; the answer is where the part ends.
-fn check_bounds(place: usize, earliest: usize, part: Extent, all: usize) -> Result<usize, FileFault>
-    ensures fault { fault_in result ≡ bounds_fault place earliest part.start part.size all }
-    ensures end { IfOk result (λ end. end ≡ part.start + part.size) }
-    ensures within { IfOk result (λ end. end ≤ all) }
+/// One part, whose pair stands at `place`.
+fn check_part<const N: usize>(
+    bytes: &[u8],
+    place: usize,
+    earliest: usize,
+    part: Extent,
+) -> Result<Part<'_, N>, FileFault>
+    requires { IsRecordSize N }
+    ensures fault { fault_in result ≡ bounds_fault place earliest part.start part.size (length bytes.now) }
+    ensures start { IfOk result (λ p. p.start ≡ part.start) }
+    ensures records { IfOk result (λ p. p.records.now ≡ records_from bytes.now part.start N (part.size / N)) }
 {
-    let end = part.end();
-    if usize::from(part.start) < earliest || end > all {
+    if usize::from(part.start) < earliest || part.end() > bytes.len() {
         return Err(FileFault::PartBounds(place));
     }
-    Ok(end)
+    Ok(Part::read(bytes, part))
 }
 
-fn check_lengths(bytes: &[u8]) -> Result<(), FileFault>
-    requires { 14 ≤ length bytes.now }
-    ensures { fault_in result ≡ lengths_fault bytes.now }
+/// Each part has as many whole records as it may have.
+fn check_lengths(header: Header) -> Result<(), FileFault>
+    ensures { fault_in result ≡ or_else (site_length_fault header.sites.size) (line_length_fault header.lines.size) }
 {
-    let header = Header::read(bytes);
-    check_site_length(header.sites.size)?;
-    check_line_length(header.lines.size)
+    check_length::<SITE_BYTES>(8, header.sites.size, 1, MOST_SITES)?;
+    check_length::<LINE_BYTES>(12, header.lines.size, 0, MOST_LINES)
 }
 
-fn check_site_length(size: u16) -> Result<(), FileFault>
-    ensures { fault_in result ≡ site_length_fault size }
+/// The length of one part, which stands at `place`: that of `fewest` to `most` records of `N` bytes.
+fn check_length<const N: usize>(
+    place: usize,
+    size: u16,
+    fewest: usize,
+    most: usize,
+) -> Result<(), FileFault>
+    requires { IsRecordSize N }
+    ensures { fault_in result ≡ length_fault place N fewest most size }
 {
-    if size == 0 || size > MOST_SITE_BYTES || size % 8 != 0 {
-        return Err(FileFault::PartLength(8));
-    }
-    Ok(())
-}
-
-fn check_line_length(size: u16) -> Result<(), FileFault>
-    ensures { fault_in result ≡ line_length_fault size }
-{
-    if size > MOST_LINE_BYTES || size % 6 != 0 {
-        return Err(FileFault::PartLength(12));
+    let size = usize::from(size);
+    let records = size / N;
+    if records < fewest || records > most || size % N != 0 {
+        return Err(FileFault::PartLength(place));
     }
     Ok(())
 }

@@ -9,6 +9,7 @@ mod network_checks;
 mod numbered;
 mod parts;
 mod record_checks;
+mod records;
 
 pub use faults::{FileFault, Layer, NetworkFault, RecordFault};
 pub use file::NetworkFile;

@@ -1,42 +1,48 @@
-ghost use Rattle.std.specs.Prelude.{◌≡◌, ◌≤◌, length};
-ghost use Rattle.netfile.specs.Layout.{site_end, line_end};
-ghost use Rattle.netfile.specs.Meaning.{fault_in, joins_two, ends_fault, first_fault};
+ghost use Rattle.std.specs.Prelude.{◌≡◌, IfOk};
+ghost use Rattle.netfile.specs.Layout.{site_numbers};
+ghost use Rattle.netfile.specs.Search.{lowest_where};
+ghost use Rattle.netfile.specs.Layout.{line_count};
+ghost use Rattle.netfile.specs.Meaning.{fault_in, joins_two, wrong_ends, ends_fault, first_fault};
 ghost use Rattle.netfile.specs.Networks.{Judged};
 
 use crate::faults::NetworkFault;
-use crate::header::{LINE_BYTES, line_part, site_part};
 use crate::numbered::{Numbered, find};
+use crate::parts::Parts;
 use crate::record_checks::check_records;
+use crate::records::LineRecord;
 
 /// All checks, in their order.
-pub fn check_network(bytes: &[u8]) -> Result<(), NetworkFault>
+pub fn check_network(bytes: &[u8]) -> Result<Parts<'_>, NetworkFault>
     ensures fault { fault_in result ≡ first_fault bytes.now }
     ensures judged { Judged bytes.now (fault_in result) }
+    ensures lent { IfOk result (λ p. p.bytes.now ≡ bytes.now) }
 {
-    check_records(bytes)?;
-    check_ends(bytes)
+    let parts = check_records(bytes)?;
+    check_ends(&parts)?;
+    Ok(parts)
 }
 
 /// Each line joins two different sites of the file.
-fn check_ends(bytes: &[u8]) -> Result<(), NetworkFault>
-    requires header { 14 ≤ length bytes.now }
-    requires sites { site_end bytes.now ≤ length bytes.now }
-    requires lines { line_end bytes.now ≤ length bytes.now }
-    ensures { fault_in result ≡ ends_fault bytes.now }
+fn check_ends(parts: &Parts<'_>) -> Result<(), NetworkFault>
+    ensures { fault_in result ≡ ends_fault parts.now.bytes.now }
 {
-    let sites = site_part(bytes);
-    let lines = line_part(bytes);
-    for j in 0..lines.total {
-        let line = lines.record(j);
-        if !joins_two(&sites, line.first_named, line.second_named) {
-            return Err(NetworkFault::Ends(lines.start + LINE_BYTES * j));
-        }
+    match first_unjoined(parts) {
+        Some(j) => Err(NetworkFault::Ends(parts.lines.place_of(j))),
+        None => Ok(()),
     }
-    Ok(())
 }
 
-fn joins_two<T: Numbered>(sites: &T, first: u16, second: u16) -> bool
-    ensures { result ≡ joins_two (T.numbers sites.now) first second }
+/// The first line record that does not join two different sites of the file.
+fn first_unjoined(parts: &Parts<'_>) -> Option<usize>
+    ensures { result ≡ lowest_where (wrong_ends parts.now.bytes.now) (line_count parts.now.bytes.now) }
 {
+    parts.lines.records.iter().position(|record| !joins_two(&parts.sites, LineRecord::read(record)))
+}
+
+fn joins_two<T: Numbered>(sites: &T, line: LineRecord) -> bool
+    ensures { result ≡ joins_two (T.numbers sites.now) line.first_named line.second_named }
+{
+    let first = line.first_named;
+    let second = line.second_named;
     find(sites, first).is_some() && find(sites, second).is_some() && first != second
 }

@@ -48,24 +48,14 @@ impl<R: HasNumber> Numbered for Vec<R> {
 pub fn find<T: Numbered>(records: &T, number: u16) -> Option<usize>
     ensures { result ≡ position_of (T.numbers records.now) number }
 {
-    for position in 0..records.count() {
-        if records.number(position) == number {
-            return Some(position);
-        }
-    }
-    None
+    (0..records.count()).find(|i| records.number(*i) == number)
 }
 
 /// The first position whose number is not above the one before it.
 pub fn first_not_rising<T: Numbered>(records: &T) -> Option<usize>
     ensures { result ≡ first_fall (T.numbers records.now) }
 {
-    for i in 0..records.count() {
-        if falls(records, i) {
-            return Some(i);
-        }
-    }
-    None
+    (0..records.count()).find(|i| falls(records, *i))
 }
 
 /// Whether the number at a position is not above the one before it. The first record has none before it, so its number

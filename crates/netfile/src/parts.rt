@@ -1,103 +1,64 @@
-ghost use Rattle.std.specs.Prelude.{◌≡◌, ◌+◌, ◌*◌, ◌<◌, ◌≤◌, length};
-ghost use Rattle.netfile.specs.Layout.{site_from, numbers_from};
-ghost use Rattle.netfile.specs.Records.{named_from};
+ghost use Rattle.std.specs.Prelude.{◌≡◌, ◌+◌, ◌*◌, ◌/◌, ◌^◌, ◌<◌, ◌≤◌, length};
+ghost use Rattle.netfile.specs.Layout.{IsRecordSize, records_from, numbers_of, site_offset, line_offset, site_records, line_records};
 
-use crate::header::{LINE_BYTES, SITE_BYTES};
+use crate::header::Extent;
 use crate::numbered::Numbered;
-use network::Site;
+use crate::records::{LINE_BYTES, SITE_BYTES, number_of};
 
-/// The number in two bytes, the low one first.
-pub fn number_of(low: u8, high: u8) -> u16
-    ensures { result ≡ low + 256 * high }
-{
-    u16::from_le_bytes([low, high])
-}
-
-/// The site part: records of eight bytes, each a number and a call sign of six bytes.
+/// A part of the file: records of `N` bytes that follow one another, each with its number in its first two bytes.
 #[derive(Clone, Copy)]
-pub struct SitePart<'a> {
-    pub bytes: &'a [u8],
+pub struct Part<'a, const N: usize> {
     pub start: usize,
-    pub total: usize,
-    ghost within: { start + 8 * total ≤ length bytes.now },
+    pub records: &'a [[u8; N]],
+    ghost sized: { IsRecordSize N },
+    ghost within: { start + N * length records.now < 2 ^ 64 },
 }
 
-impl<'a> SitePart<'a> {
-    pub fn record(&self, i: usize) -> Site
-        requires { i < self.now.total }
-        ensures { result ≡ site_from self.now.bytes.now (self.now.start + 8 * i) }
+impl<'a, const N: usize> Part<'a, N> {
+    /// The records in an extent of the file.
+    pub fn read(bytes: &'a [u8], extent: Extent) -> Part<'a, N>
+        requires sized { IsRecordSize N }
+        requires within { extent.start + extent.size ≤ length bytes.now }
+        ensures start { result.start ≡ extent.start }
+        ensures records { result.records.now ≡ records_from bytes.now extent.start N (extent.size / N) }
     {
-        match &self.bytes[self.start + SITE_BYTES * i..] {
-            [n0, n1, c0, c1, c2, c3, c4, c5, ..] => Site {
-                number: number_of(*n0, *n1),
-                call_sign: [*c0, *c1, *c2, *c3, *c4, *c5],
-            },
-            _ => unreachable(),
-        }
+        let start = usize::from(extent.start);
+        let (records, _) = bytes[start..extent.end()].as_chunks();
+        Part { start, records }
+    }
+
+    /// The first byte of the record at a position.
+    pub fn place_of(&self, i: usize) -> usize
+        requires { i < length self.now.records.now }
+        ensures { result ≡ self.now.start + N * i }
+    {
+        self.start + N * i
     }
 }
 
-impl Numbered for SitePart<'_> {
-    ghost numbers = { λ s. numbers_from s.bytes.now s.start 8 s.total };
+impl<const N: usize> Numbered for Part<'_, N> {
+    ghost numbers = { λ p. numbers_of p.records.now };
 
     fn count(&self) -> usize {
-        self.total
+        self.records.len()
     }
 
     fn number(&self, i: usize) -> u16 {
-        if i < self.total {
-            self.record(i).number
-        } else {
-            0
+        match self.records.get(i) {
+            Some(record) => number_of(record[0], record[1]),
+            None => 0,
         }
     }
 }
 
-/// What a line record says: the line's number and the numbers of the two sites that it names.
+/// The two parts of a file whose header puts them within its bytes.
 #[derive(Clone, Copy)]
-pub struct LineRecord {
-    pub number: u16,
-    pub first_named: u16,
-    pub second_named: u16,
-}
-
-/// The line part: records of six bytes, each a number and the numbers of two sites.
-#[derive(Clone, Copy)]
-pub struct LinePart<'a> {
+pub struct Parts<'a> {
     pub bytes: &'a [u8],
-    pub start: usize,
-    pub total: usize,
-    ghost within: { start + 6 * total ≤ length bytes.now },
-}
-
-impl<'a> LinePart<'a> {
-    pub fn record(&self, j: usize) -> LineRecord
-        requires { j < self.now.total }
-        ensures { result ≡ named_from self.now.bytes.now (self.now.start + 6 * j) }
-    {
-        match &self.bytes[self.start + LINE_BYTES * j..] {
-            [n0, n1, f0, f1, s0, s1, ..] => LineRecord {
-                number: number_of(*n0, *n1),
-                first_named: number_of(*f0, *f1),
-                second_named: number_of(*s0, *s1),
-            },
-            _ => unreachable(),
-        }
-    }
-}
-
-impl Numbered for LinePart<'_> {
-    ghost numbers = { λ s. numbers_from s.bytes.now s.start 6 s.total };
-
-    fn count(&self) -> usize {
-        self.total
-    }
-
-    fn number(&self, j: usize) -> u16 {
-        if j < self.total {
-            self.record(j).number
-        } else {
-            0
-        }
-    }
+    pub sites: Part<'a, SITE_BYTES>,
+    pub lines: Part<'a, LINE_BYTES>,
+    ghost sites_start: { sites.start ≡ site_offset bytes.now },
+    ghost lines_start: { lines.start ≡ line_offset bytes.now },
+    ghost sites_read: { sites.records.now ≡ site_records bytes.now },
+    ghost lines_read: { lines.records.now ≡ line_records bytes.now },
 }

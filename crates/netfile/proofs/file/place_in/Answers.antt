@@ -1,11 +1,11 @@
-use Rattle.std.proofs.Common.{◌<◌, length, sym, arith}
-use Rattle.netfile.specs.Search.{stands_at}
+use Rattle.std.proofs.Common.{◌≡◌, ◌<◌, ◌≤◌, ℕ, List, length, Some, arith, rules}
+use Rattle.netfile.specs.Search.{position_of, stands_at}
 use Rattle.netfile.proofs.Lowest.{lowest_is}
 use Rattle.netfile.proofs.file.place_in.Goals as goal
 
-pub returns-in-Some-2 : goal.returns-in-Some-2
-returns-in-Some-2 g c = λ few.
-    let ns = g.T.Numbered.numbers c.args.sites.now in
-    let within : c.in-Some.place < length ns =
-    (lowest_is (stands_at ns c.args.number) (length ns) c.in-Some.place (sym c.in-Some.ensures)).within in
-    absurd (omega arith)
+small : (ns : List ℕ) (n p : ℕ) → length ns ≤ 64 → position_of ns n ≡ Some p → p < 256
+small ns n p few e = omega (arith, few, (lowest_is (stands_at ns n) (length ns) p e).within)
+
+pub returns : goal.returns
+returns g c =
+    let s = small (g.T.Numbered.numbers c.args.sites.now) c.args.number in search rules

@@ -1,15 +1,15 @@
-use Rattle.std.proofs.Common.{◌≡◌, ◌<◌, true, sym, rules}
-use Rattle.netfile.specs.Layout.{line_count}
-use Rattle.netfile.specs.Meaning.{wrong_ends}
-use Rattle.netfile.proofs.Ends.{ends_none, ends_first}
+use Rattle.std.proofs.Common.{sym, arith, rules}
+use Rattle.netfile.specs.Meaning.{ends_fault}
+use Rattle.netfile.proofs.PartFaults.{line_within}
 use Rattle.netfile.proofs.network_checks.check_ends.Goals as goal
 
-pub returns-then-not-joins_two : goal.returns-then-not-joins_two
-returns-then-not-joins_two c =
-    let wrong : wrong_ends c.args.bytes.now c.loop-j.j ≡ true = search rules in
-    let within : c.loop-j.j < line_count c.args.bytes.now = search rules in
-    let first = ends_first c.args.bytes.now c.loop-j.j c.loop-j.invariant wrong within in
-    let start = c.line_part-lines.ensures.start c.requires.header c.requires.lines in cc
+pub place_of-requires : goal.place_of-requires
+place_of-requires c = (omega arith, line_within c.args.parts.now c.in-Some.j (sym c.in-Some.ensures))
 
-pub returns : goal.returns
-returns c = sym (ends_none c.args.bytes.now (λ k l. c.loop-j.invariant k (search rules)))
+pub returns-in-Some : goal.returns-in-Some
+unfolding ends_fault
+returns-in-Some c = search rules
+
+pub returns-in-None : goal.returns-in-None
+unfolding ends_fault
+returns-in-None c = search rules

@@ -1,13 +1,12 @@
-use Rattle.std.proofs.Common.{sym, arith}
-use Rattle.std.proofs.lemmas.Bool.{eq-eqb}
+use Rattle.std.proofs.Common.{◌≡◌, true, false, length, rules}
+use Rattle.std.proofs.lemmas.Iterator.{first_from_Range}
 use Rattle.netfile.specs.Search.{stands_at}
-use Rattle.netfile.proofs.Lowest.{lowest_none, lowest_first}
+use Rattle.netfile.proofs.Lowest.{lowest_in_range}
 use Rattle.netfile.proofs.numbered.find.Goals as goal
-
-pub returns-then-number : goal.returns-then-number
-returns-then-number g c =
-    sym (lowest_first (stands_at (g.T.Numbered.numbers c.args.records.now) c.args.number) c.loop-position.position _ c.loop-position.invariant (eq-eqb _ _ (omega arith)) (omega arith))
 
 pub returns : goal.returns
 returns g c =
-    sym (lowest_none (stands_at (g.T.Numbered.numbers c.args.records.now) c.args.number) _ (λ k l. c.loop-position.invariant k (omega arith)))
+    let ns = g.T.Numbered.numbers c.args.records.now in
+    let stands = stands_at ns c.args.number in
+    lowest_in_range stands c.count.result (length ns) c.find.result c.count.ensures
+    (first_from_Range _ _ _ c.find.result (λ i. stands i ≡ true) (λ i. stands i ≡ false) c.find.ensures.ran (λ i f k. search rules) (λ i f k. search rules))

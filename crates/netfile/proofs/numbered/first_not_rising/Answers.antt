@@ -1,12 +1,11 @@
-use Rattle.std.proofs.Common.{sym, ◌∙◌, arith}
+use Rattle.std.proofs.Common.{◌≡◌, true, false, length, rules}
+use Rattle.std.proofs.lemmas.Iterator.{first_from_Range}
 use Rattle.netfile.specs.Search.{falls_at}
-use Rattle.netfile.proofs.Lowest.{lowest_none, lowest_first}
+use Rattle.netfile.proofs.Lowest.{lowest_in_range}
 use Rattle.netfile.proofs.numbered.first_not_rising.Goals as goal
-
-pub returns-then-falls : goal.returns-then-falls
-returns-then-falls g c =
-    sym (lowest_first (falls_at (g.T.Numbered.numbers c.args.records.now)) c.loop-i.i _ c.loop-i.invariant (sym c.falls.ensures ∙ c.if-falls.true) (omega arith))
 
 pub returns : goal.returns
 returns g c =
-    sym (lowest_none (falls_at (g.T.Numbered.numbers c.args.records.now)) _ (λ k l. c.loop-i.invariant k (omega arith)))
+    let ns = g.T.Numbered.numbers c.args.records.now in
+    lowest_in_range (falls_at ns) c.count.result (length ns) c.find.result c.count.ensures
+    (first_from_Range _ _ _ c.find.result (λ i. falls_at ns i ≡ true) (λ i. falls_at ns i ≡ false) c.find.ensures.ran (λ i f k. search rules) (λ i f k. search rules))

@@ -1,11 +1,13 @@
-use Rattle.std.proofs.Common.{◌+◌, ◌*◌, ◌^◌, ◌<◌, sym, arith}
-use Rattle.netfile.proofs.Rising.{fall_fits}
+use Rattle.std.proofs.Common.{◌<◌, length, sym, arith}
+use Rattle.std.proofs.lemmas.List.{length-map}
+use Rattle.netfile.specs.Layout.{pair_at, numbers_of}
+use Rattle.netfile.specs.Search.{falls_at}
+use Rattle.netfile.proofs.Lowest.{lowest_is}
 use Rattle.netfile.proofs.record_checks.check_order.Goals as goal
 
-pub overflow_mul-result : goal.overflow_mul-result
-overflow_mul-result g c =
-    let f : c.args.start + c.args.step * c.in-Some.i < 2 ^ 64 = fall_fits _ _ _ _ _ c.requires (sym c.in-Some.ensures) in omega arith
-
-pub overflow_add-result : goal.overflow_add-result
-overflow_add-result g c =
-    let f : c.args.start + c.args.step * c.in-Some.i < 2 ^ 64 = fall_fits _ _ _ _ _ c.requires (sym c.in-Some.ensures) in omega arith
+pub place_of-requires : goal.place_of-requires
+place_of-requires g c =
+    let rs = c.args.part.now.records.now in
+    let within : c.in-Some.i < length (numbers_of rs) =
+    (lowest_is (falls_at (numbers_of rs)) (length (numbers_of rs)) c.in-Some.i (sym c.in-Some.ensures)).within in
+    (omega arith, omega (arith, length-map rs (λ r. pair_at r 0)))
