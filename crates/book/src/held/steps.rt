@@ -14,7 +14,7 @@ use crate::ticket::Ticket;
 use crate::tree::tree_of;
 use netfile::{NetworkFile, find};
 use network::{Engine, MOST_LINES, Network};
-use routes::take_routes;
+use routes::{Marking, take_routes};
 
 /// How many bookings a book accepts.
 const LAST_NUMBER: u16 = 65535;
@@ -179,9 +179,13 @@ fn choose<E: Engine>(
     if flow.value < k {
         return Err(Fault::TooFewRoutes(flow.value, flow.side));
     }
-    let net = &pair.net;
-    Ok(take_routes(
-        net.sites, net.lines, &marks, pair.a, pair.b, flow.value, k, list,
-    )
-    .unwrap())
+    let marking = Marking {
+        sites: pair.net.sites,
+        lines: pair.net.lines,
+        marks: &marks,
+        a: pair.a,
+        b: pair.b,
+        value: flow.value,
+    };
+    Ok(take_routes(&marking, k, list).unwrap())
 }
