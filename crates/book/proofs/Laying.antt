@@ -5,15 +5,16 @@ use Rattle.std.proofs.lemmas.List.{take_more, ext_get_or, length-map, length-tak
 use Rattle.std.proofs.lemmas.Option.{slice_get-get_or}
 
 -- what stands at a place is the next to be laid
-pub laid_more : {X : Type 0} (xs ys ys' : List X) (i : ℕ) (x d : X) → i < length xs → ys ≡ take i xs → Some x ≡ slice_get xs i → ys' ≡ ys ++ x ∷ []
+pub laid_more : {X : Type 0} (xs ys ys' : List X) (i : ℕ) (x : X) → i < length xs → ys ≡ take i xs → Some x ≡ slice_get xs i → ys' ≡ ys ++ x ∷ []
     → ys' ≡ take (i + 1) xs
-laid_more xs ys ys' i x d l e here p =
-    let there = slice_get-get_or xs i d l in
-    let same : x ≡ get_or xs i d = cc in
-    p ∙ rw (e, same) (sym (take_more xs i d l))
+laid_more xs ys ys' i x l e here p =
+    let there = slice_get-get_or xs i x l in
+    let same : x ≡ get_or xs i x = cc in
+    p ∙ rw e (ap (λ (y : _). take i xs ++ y ∷ []) same ∙ sym (take_more xs i x l))
 
-pub laid_there : {X : Type 0} (xs : List X) (i : ℕ) (d : X) → i < length xs → None ≡ slice_get xs i → ⊥
-laid_there xs i d l e = let there = slice_get-get_or xs i d l in let z : ◌≡◌ {A = ℕ} 0 1 = cc in omega arith
+pub laid_there : {X : Type 0} (xs : List X) (i : ℕ) → i < length xs → None ≡ slice_get xs i → ⊥
+laid_there [] i l e = omega (arith, l)
+laid_there (x ∷ xs) i l e = let there = slice_get-get_or (x ∷ xs) i x l in let z : ◌≡◌ {A = ℕ} 0 1 = cc in omega arith
 
 -- the first n elements are mapped, and the rest is as it was
 pub named : (n : ℕ) (f : ℕ → ℕ) (list xs ys gs : List ℕ) → n ≤ length xs → length ys ≡ length xs → take n xs ≡ gs → drop n xs ≡ drop n list

@@ -10,7 +10,6 @@ pub mod Law
 pub mod Listings
 pub mod Seeking
 pub mod Places
-pub mod Asking
 pub mod Preparing
 pub mod Entering
 pub mod Laying

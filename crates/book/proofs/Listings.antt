@@ -1,7 +1,7 @@
 -- Routes as a list of counts and positions: what a walk over such a list does.
-use Rattle.std.proofs.Common.{◌≡◌, ℕ, zero, suc, ◌+◌, ◌-◌, ◌<◌, ◌≤◌, Bool, true, false, cond, ◌||◌, ◌≢◌, List, [], ◌∷◌, ◌++◌, map, length, get_or, take, drop, set, sym, refl, ap, ◌∙◌, inl, inr, sub-one, arith, length-set}
+use Rattle.std.proofs.Common.{◌≡◌, ℕ, zero, suc, ◌+◌, ◌-◌, ◌<◌, ◌≤◌, Bool, true, false, cond, ◌||◌, ◌≢◌, List, [], ◌∷◌, ◌++◌, map, length, get_or, drop, set, sym, refl, ap, ◌∙◌, inl, inr, sub-one, arith, length-set}
 use Rattle.std.specs.List.{flat_map}
-use Rattle.std.proofs.lemmas.List.{drop_more, drop_all, take_more_set, append_assoc, append-nil, get_or-set_same, get_or-set_other, length-append}
+use Rattle.std.proofs.lemmas.List.{drop_more, drop_all, append_assoc, append-nil, get_or-set_same, get_or-set_other, length-append}
 use Rattle.std.proofs.lemmas.Bool.{cases_eq, eq-eqb, ne_eqb}
 use Rattle.network.specs.declared.line.Line.{Line}
 use Rattle.network.specs.declared.line.LineState.TheVariants.{Held}
@@ -9,9 +9,10 @@ use Rattle.network.specs.Lines.{line_at, no_line}
 use Rattle.network.specs.Lists.{among}
 use Rattle.network.specs.Routes.{number_at, on_any, written}
 use Rattle.network.proofs.Lists.{among_here, among_later, among_nil, among_append}
+use Rattle.book.specs.declared.listing.Entry.TheVariants.{Count, Position}
 use Rattle.book.specs.Ledger.{with_state}
 use Rattle.book.specs.Tables.{lines_on}
-use Rattle.book.specs.Listings.{positions_told, numbers_told, given_to}
+use Rattle.book.specs.Listings.{Reads, positions_told, numbers_told, given_to}
 
 -- one step of a walk: a count, or a line of the present route
 module _ (xs : List ℕ) (i left : ℕ) (l : i < length xs) where
@@ -57,25 +58,26 @@ pub record Giving (n m : ℕ) (xs : List ℕ) (start : List Line) (left i : ℕ)
   pub inside : (p : ℕ) → among (positions_told left (drop i xs)) p ≡ true → p < m
 
 pub giving_count : (n m : ℕ) (xs : List ℕ) (start : List Line) (left i : ℕ) (ls : List Line) → Giving n m xs start left i ls
-    → i < length xs → left ≡ 0 → (left' : ℕ) (ls' : List Line) → left' ≡ get_or xs i 0 → ls' ≡ ls → Giving n m xs start left' (i + 1) ls'
-giving_count n m xs start left i ls g l z left' ls' c k =
-    let e = positions_count xs i left l z in
-    rw (c, k) (record { leads = rw e at g.leads; inside = rw e at g.inside })
+    → i < length xs → (left' count : ℕ) → Reads left (get_or xs i 0) left' (Count count) → Giving n m xs start left' (i + 1) ls
+giving_count n m xs start left i ls g l left' count r =
+    let e = positions_count xs i left l r.0 in
+    rw r.1 (record { leads = rw e at g.leads; inside = rw e at g.inside })
 
 pub giving_line : (n m : ℕ) (xs : List ℕ) (start : List Line) (left i : ℕ) (ls : List Line) → Giving n m xs start left i ls
-    → i < length xs → left ≢ 0 → (left' : ℕ) (ls' : List Line) → left' ≡ left - 1
-    → ls' ≡ set ls (get_or xs i 0) (with_state (Held n) (line_at ls (get_or xs i 0))) → Giving n m xs start left' (i + 1) ls'
+    → i < length xs → (left' at' : ℕ) (ls' : List Line) → Reads left (get_or xs i 0) left' (Position at')
+    → ls' ≡ set ls at' (with_state (Held n) (line_at ls at')) → Giving n m xs start left' (i + 1) ls'
 unfolding given_to
-giving_line n m xs start left i ls g l ne left' ls' c k =
-    let e = positions_line xs i left l ne in
+giving_line n m xs start left i ls g l left' at' ls' r k =
+    let e = positions_line xs i left l r.0 in
     let h = rw e at g.inside in
-    rw (c, k) (record { leads = rw e at g.leads; inside = λ p a. h p (among_later (get_or xs i 0) p (positions_told (left - 1) (drop (i + 1) xs)) a) })
+    let c : left' ≡ left - 1 = omega (arith, r.1) in
+    rw (k, r.2, c) (record { leads = rw e at g.leads; inside = λ p a. h p (among_later (get_or xs i 0) p (positions_told (left - 1) (drop (i + 1) xs)) a) })
 
 pub giving_inside : (n m : ℕ) (xs : List ℕ) (start : List Line) (left i : ℕ) (ls : List Line) → Giving n m xs start left i ls
-    → i < length xs → left ≢ 0 → get_or xs i 0 < m
-giving_inside n m xs start left i ls g l ne =
-    let h = rw (positions_line xs i left l ne) at g.inside in
-    h (get_or xs i 0) (among_here (get_or xs i 0) (positions_told (left - 1) (drop (i + 1) xs)))
+    → i < length xs → (left' at' : ℕ) → Reads left (get_or xs i 0) left' (Position at') → at' < m
+giving_inside n m xs start left i ls g l left' at' r =
+    let h = rw (positions_line xs i left l r.0) at g.inside in
+    rw r.2 (h (get_or xs i 0) (among_here (get_or xs i 0) (positions_told (left - 1) (drop (i + 1) xs))))
 
 pub giving_all : (n m : ℕ) (xs : List ℕ) (start : List Line) (left i : ℕ) (ls : List Line) → Giving n m xs start left i ls
     → length xs ≤ i → ls ≡ given_to n (positions_told 0 xs) start
@@ -84,44 +86,45 @@ giving_all n m xs start left i ls g l =
     let e : positions_told left (drop i xs) ≡ [] = rw (drop_all i xs l) (positions_none left) in
     rw e at g.leads
 
--- likewise for writing numbers
-pub record Telling (ls : List Line) (xs : List ℕ) (left i : ℕ) (ns : List ℕ) : Type 0 where
-  pub leads : take i ns ++ numbers_told ls left (drop i xs) ≡ numbers_told ls 0 xs
+-- likewise for writing numbers after those that stand already
+pub record Telling (ls : List Line) (xs start : List ℕ) (left i : ℕ) (ns : List ℕ) : Type 0 where
+  pub leads : ns ++ numbers_told ls left (drop i xs) ≡ start ++ numbers_told ls 0 xs
   pub inside : (p : ℕ) → among (positions_told left (drop i xs)) p ≡ true → p < length ls
 
-put : (ns : List ℕ) (i y : ℕ) (rest all : List ℕ) → i < length ns → take i ns ++ y ∷ rest ≡ all → take (i + 1) (set ns i y) ++ rest ≡ all
-put ns i y rest all l e = rw (take_more_set ns i y l, append_assoc) e
+one_more : (ns rest all : List ℕ) (y : ℕ) → ns ++ y ∷ rest ≡ all → (ns ++ y ∷ []) ++ rest ≡ all
+one_more ns rest all y e = rw append_assoc e
 
-pub telling_count : (ls : List Line) (xs : List ℕ) (left i : ℕ) (ns : List ℕ) → Telling ls xs left i ns
-    → i < length xs → i < length ns → left ≡ 0 → (left' : ℕ) (ns' : List ℕ) → left' ≡ get_or xs i 0 → ns' ≡ set ns i (get_or xs i 0)
-    → Telling ls xs left' (i + 1) ns'
-telling_count ls xs left i ns t l m z left' ns' c k =
-    rw (c, k) (record {
-      leads = put ns i (get_or xs i 0) _ _ m (ap (λ (r : List ℕ). take i ns ++ r) (sym (numbers_count xs i left l ls z)) ∙ t.leads);
-      inside = rw (positions_count xs i left l z) at t.inside;
+pub telling_count : (ls : List Line) (xs start : List ℕ) (left i : ℕ) (ns : List ℕ) → Telling ls xs start left i ns
+    → i < length xs → (left' count : ℕ) (ns' : List ℕ) → Reads left (get_or xs i 0) left' (Count count) → ns' ≡ ns ++ count ∷ []
+    → Telling ls xs start left' (i + 1) ns'
+telling_count ls xs start left i ns t l left' count ns' r k =
+    rw (k, r.2, r.1) (record {
+      leads = one_more ns _ _ (get_or xs i 0) (ap (λ (z : List ℕ). ns ++ z) (sym (numbers_count xs i left l ls r.0)) ∙ t.leads);
+      inside = rw (positions_count xs i left l r.0) at t.inside;
     })
 
-pub telling_line : (ls : List Line) (xs : List ℕ) (left i : ℕ) (ns : List ℕ) → Telling ls xs left i ns
-    → i < length xs → i < length ns → left ≢ 0 → (left' : ℕ) (ns' : List ℕ) → left' ≡ left - 1 → ns' ≡ set ns i (number_at ls (get_or xs i 0))
-    → Telling ls xs left' (i + 1) ns'
-telling_line ls xs left i ns t l m ne left' ns' c k =
-    let h = rw (positions_line xs i left l ne) at t.inside in
-    rw (c, k) (record {
-      leads = put ns i (number_at ls (get_or xs i 0)) _ _ m (ap (λ (r : List ℕ). take i ns ++ r) (sym (numbers_line xs i left l ls ne)) ∙ t.leads);
+pub telling_line : (ls : List Line) (xs start : List ℕ) (left i : ℕ) (ns : List ℕ) → Telling ls xs start left i ns
+    → i < length xs → (left' at' : ℕ) (ns' : List ℕ) → Reads left (get_or xs i 0) left' (Position at') → ns' ≡ ns ++ number_at ls at' ∷ []
+    → Telling ls xs start left' (i + 1) ns'
+telling_line ls xs start left i ns t l left' at' ns' r k =
+    let h = rw (positions_line xs i left l r.0) at t.inside in
+    let c : left' ≡ left - 1 = omega (arith, r.1) in
+    rw (k, r.2, c) (record {
+      leads = one_more ns _ _ (number_at ls (get_or xs i 0)) (ap (λ (z : List ℕ). ns ++ z) (sym (numbers_line xs i left l ls r.0)) ∙ t.leads);
       inside = λ p a. h p (among_later (get_or xs i 0) p (positions_told (left - 1) (drop (i + 1) xs)) a);
     })
 
-pub telling_inside : (ls : List Line) (xs : List ℕ) (left i : ℕ) (ns : List ℕ) → Telling ls xs left i ns
-    → i < length xs → left ≢ 0 → get_or xs i 0 < length ls
-telling_inside ls xs left i ns t l ne =
-    let h = rw (positions_line xs i left l ne) at t.inside in
-    h (get_or xs i 0) (among_here (get_or xs i 0) (positions_told (left - 1) (drop (i + 1) xs)))
+pub telling_inside : (ls : List Line) (xs start : List ℕ) (left i : ℕ) (ns : List ℕ) → Telling ls xs start left i ns
+    → i < length xs → (left' at' : ℕ) → Reads left (get_or xs i 0) left' (Position at') → at' < length ls
+telling_inside ls xs start left i ns t l left' at' r =
+    let h = rw (positions_line xs i left l r.0) at t.inside in
+    rw r.2 (h (get_or xs i 0) (among_here (get_or xs i 0) (positions_told (left - 1) (drop (i + 1) xs))))
 
-pub telling_all : (ls : List Line) (xs : List ℕ) (left i : ℕ) (ns : List ℕ) → Telling ls xs left i ns
-    → length xs ≤ i → take i ns ≡ numbers_told ls 0 xs
-telling_all ls xs left i ns t l =
+pub telling_all : (ls : List Line) (xs start : List ℕ) (left i : ℕ) (ns : List ℕ) → Telling ls xs start left i ns
+    → length xs ≤ i → ns ≡ start ++ numbers_told ls 0 xs
+telling_all ls xs start left i ns t l =
     let e : numbers_told ls left (drop i xs) ≡ [] = rw (drop_all i xs l) (numbers_none ls left) in
-    sym (append-nil (take i ns)) ∙ rw e at t.leads
+    sym (append-nil ns) ∙ rw e at t.leads
 
 -- all lines of the routes, one route after the other
 abbrev pub all_of : List (List ℕ) → List ℕ
@@ -188,12 +191,3 @@ line_given n (q ∷ ps) ls p l =
     again : (t : Bool) (l : Line) → cond t (with_state (Held n) (with_state (Held n) l)) (with_state (Held n) l) ≡ with_state (Held n) l
     again true l = refl
     again false l = refl
-
-pub given_ends : (n : ℕ) (ps : List ℕ) (ls ls' : List Line) → ls' ≡ given_to n ps ls → (p : ℕ) → p < length ls
-    → ((line_at ls' p).first ≡ (line_at ls p).first) × ((line_at ls' p).second ≡ (line_at ls p).second)
-given_ends n ps ls ls' e p l =
-    rw (ap (λ (z : List Line). line_at z p) e ∙ line_given n ps ls p l) (still (among ps p) (line_at ls p))
-  where
-    still : (t : Bool) (x : Line) → ((cond t (with_state (Held n) x) x).first ≡ x.first) × ((cond t (with_state (Held n) x) x).second ≡ x.second)
-    still true x = (refl, refl)
-    still false x = (refl, refl)

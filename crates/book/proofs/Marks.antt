@@ -1,10 +1,10 @@
 -- What holding routes and freeing lines does to the counts of lines.
-use Rattle.std.proofs.Common.{◌≡◌, ℕ, ◌+◌, ◌*◌, ◌<◌, ◌≤◌, Bool, true, false, cond, ◌||◌, eqb, ◌≢◌, List, [], ◌∷◌, length, sym, refl, ap, ◌∙◌, inl, inr, add-zero, zero-add, arith}
+use Rattle.std.proofs.Common.{◌≡◌, ℕ, ◌+◌, ◌*◌, ◌<◌, ◌≤◌, Bool, true, false, cond, ◌||◌, eqb, ◌≢◌, List, [], ◌∷◌, length, sym, refl, ap, ◌∙◌, subst, inl, inr, add-zero, zero-add, arith}
 use Rattle.std.proofs.lemmas.Bool.{false≢true, both_ways, cases_Bool, eq-eqb, ne_eqb, eqb-true, or_cases}
 use Rattle.network.specs.declared.line.Line.{Line}
 use Rattle.network.specs.declared.line.LineState.{LineState}
 use Rattle.network.specs.declared.line.LineState.TheVariants.{Free, Held}
-use Rattle.network.specs.Lines.{is_free, line_at}
+use Rattle.network.specs.Lines.{is_free, line_at, Joins, AllJoin}
 use Rattle.network.specs.Groups.{tally}
 use Rattle.network.specs.Lists.{among, distinct, every}
 use Rattle.network.specs.Routes.{touches, other_end, chained, stops, end_of, route, free_at, free_route, separate, on_any, written, FreeRoutes}
@@ -220,3 +220,14 @@ module _ (ls ls' : List Line) (j : ℕ)
       rw size
       (tally_same (λ p. held_by m (line_at ls' p).state) (λ p. held_by m (line_at ls p).state) (length ls)
       (λ p l. ap (held_by m) (state_freed p l) ∙ rest_back (line_at ls p).state j m ne))
+
+-- lines of which some get another state join the places that they joined
+pub joined_still : (n : ℕ) (ls ls' : List Line) (changed : ℕ → Bool) (s : LineState) → length ls' ≡ length ls
+    → ((p : ℕ) → p < length ls → line_at ls' p ≡ cond (changed p) (with_state s (line_at ls p)) (line_at ls p)) → AllJoin n ls → AllJoin n ls'
+joined_still n ls ls' changed s size line join p l =
+    let inside : p < length ls = omega (arith, l, size) in
+    subst (Joins n) (sym (line p inside)) (still (changed p) (line_at ls p) (join p inside))
+  where
+    still : (t : Bool) (x : Line) → Joins n x → Joins n (cond t (with_state s x) x)
+    still true x j = j
+    still false x j = j

@@ -1,14 +1,14 @@
 -- The checks of questions and bookings, from the places of two sites on, and the room that is left for a booking.
-use Rattle.std.proofs.Common.{◌≡◌, ℕ, ◌+◌, ◌*◌, ◌<◌, ◌≤◌, false, List, Some, Ok, Err, vec_len, vec_capacity, Option, Result, sym, refl, ap, ◌∙◌, subst, arith}
-use Rattle.std.proofs.lemmas.Bool.{ne_eqb, lt-ltb, le-ltb, lt-leb}
+use Rattle.std.proofs.Common.{◌≡◌, ℕ, ◌+◌, ◌*◌, ◌^◌, ◌<◌, ◌≤◌, List, Ok, vec_len, vec_capacity, Option, sym, refl, ap, ◌∙◌, subst₂, arith, pow_mono}
+use Rattle.std.proofs.lemmas.Bool.{ne_eqb}
+use Rattle.network.specs.declared.line.Line.{Line}
 use Rattle.network.specs.Cuts.{level_of}
 use Rattle.network.specs.Answers.{PartedBy}
-use Rattle.book.specs.declared.fault.Fault.{Fault}
-use Rattle.book.specs.declared.fault.Fault.TheVariants.{TooFewRoutes}
 use Rattle.book.specs.declared.held.Book.{Book}
-use Rattle.book.specs.Grounds.{Ground, ground_of}
-use Rattle.book.specs.Calls.{sites_of, lines_of, rows_of, size_of, sites_check, book_level, SideOf, FewShown, k_out}
-use Rattle.book.specs.Plans.{TwoPlaces, Chosen, Prepared}
+use Rattle.book.specs.declared.pair.Pair.{Pair}
+use Rattle.book.specs.Grounds.{Ground}
+use Rattle.book.specs.Calls.{sites_of, lines_of, rows_of, size_of, sites_check, book_level, SideOf}
+use Rattle.book.specs.Plans.{TwoPlaces, Placed}
 use Rattle.book.specs.Tables.{free_count}
 use Rattle.book.proofs.Places.{place_is}
 use Rattle.book.proofs.Rows.{sound_length, sound_shown}
@@ -25,26 +25,23 @@ module _ {E : Type 0} (b : Book E) (x y p q : ℕ) (t : TwoPlaces b x y p q) whe
   pub side_there : (v s : ℕ) → PartedBy (size_of b) (lines_of b) p q v s → SideOf b x y v s
   side_there v s h = rw (place_is (sites_of b) x p t.first, place_is (sites_of b) y q t.second) h
 
-  pub prepared : (k : ℕ) (list : List ℕ) (r : Result ℕ Fault) → 1 ≤ k → k_out k ≡ false → b.count < 65535
-      → Chosen (size_of b) (lines_of b) p q k list r → Prepared b x y k list r
-  prepared k list (Ok w) some out left c =
-      let px = place_is (sites_of b) x p t.first in let py = place_is (sites_of b) y q t.second in
-      record {
-        passes = sites_pass _ ∙ rw (out, lt-leb 65535 b.count left, le-ltb (book_level b x y) k (omega (arith, level_there, c.0))) refl;
-        some = some;
-        numbers_left = left;
-        opened = omega (arith, t.first_within);
-        two = λ e. t.two (sym px ∙ e ∙ py);
-        planned = rw (px, py) c.1;
-      }
-  prepared k list (Err f) some out left c =
-      let v = level_of (size_of b) (lines_of b) p q in
-      let s = c.1.0 in
-      let few : FewShown b x y (TooFewRoutes v s) = (sym level_there, side_there v s c.1.2) in (
-        sites_pass _ ∙ rw (out, lt-leb 65535 b.count left, lt-ltb (book_level b x y) k (omega (arith, level_there, c.0)))
-            (ap (λ (h : Fault). Some (ground_of h)) (sym c.1.1)),
-        subst (λ (h : Fault). FewShown b x y h) (sym c.1.1) few,
-      )
+-- what is told of a pair of places is told of the two sites
+module _ {E : Type 0} (b : Book E) (x y : ℕ) (pair : Pair) (h : Placed b x y (Ok pair)) where
+  size_there : pair.net.sites ≡ size_of b
+  size_there = h.1 ∙ b.sites.ok.0
+
+  pub pair_level : level_of pair.net.sites pair.net.lines.now pair.a pair.b ≡ book_level b x y
+  pair_level =
+      ap (λ (n : ℕ). level_of n pair.net.lines.now pair.a pair.b) size_there ∙ ap (λ (l : List Line). level_of (size_of b) l pair.a pair.b) h.2
+      ∙ sym (level_there b x y pair.a pair.b h.0)
+
+  pub pair_side : (v s : ℕ) → PartedBy pair.net.sites pair.net.lines.now pair.a pair.b v s → SideOf b x y v s
+  pair_side v s p =
+      side_there b x y pair.a pair.b h.0 v s
+      (subst₂ (λ (n : ℕ) (l : List Line). PartedBy n l pair.a pair.b v s) size_there h.2 p)
+
+  pub pair_side_small : (v s : ℕ) → PartedBy pair.net.sites pair.net.lines.now pair.a pair.b v s → s < 2 ^ 64
+  pair_side_small v s p = let m = pow_mono pair.net.few_sites in omega (arith, p.within, m)
 
 -- where l lines are free, a booking of them has room for its row and for two numbers a line
 pub room_left : {E : Type 0} (b : Book E) (f l : ℕ) → free_count (lines_of b) ≡ f + l → 1 ≤ l

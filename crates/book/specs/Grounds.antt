@@ -1,5 +1,5 @@
 -- The checks by which calls on a book are denied.
-use Rattle.std.specs.Prelude.{ℕ, Bool, cond, Some, None, Option}
+use Rattle.std.specs.Prelude.{ℕ, Bool, cond, List, Some, None, Option, codes}
 use Rattle.netfile.specs.Faults.{number_of, layer_of}
 use Rattle.netfile.specs.declared.faults.Layer.{Layer as FileLayer}
 use Rattle.netfile.specs.declared.faults.Layer.TheVariants.{File, Record, Network as NetworkPart}
@@ -25,6 +25,13 @@ abbrev pub layer_above : FileLayer → Layer
 layer_above File = OfFile
 layer_above Record = OfRecord
 layer_above NetworkPart = OfNetwork
+
+-- the word for a layer
+abbrev pub layer_word : Layer → List ℕ
+layer_word OfFile = codes "file"
+layer_word OfRecord = codes "record"
+layer_word OfNetwork = codes "network"
+layer_word OfBook = codes "book"
 
 abbrev pub fault_layer : Fault → Layer
 fault_layer AlreadyOpen = OfBook

@@ -7,6 +7,7 @@ use Rattle.network.specs.Answers.{PartedBy}
 use Rattle.book.specs.declared.fault.Fault.{Fault}
 use Rattle.book.specs.declared.fault.Fault.TheVariants.{TooFewRoutes}
 use Rattle.book.specs.declared.held.Book.{Book}
+use Rattle.book.specs.declared.pair.Pair.{Pair}
 use Rattle.book.specs.declared.tables.Stretch.{Stretch}
 use Rattle.book.specs.declared.ticket.Ticket.{Ticket}
 use Rattle.book.specs.Grounds.{Ground, ground_of, no_booking}
@@ -41,8 +42,8 @@ module _ {E : Type 0} where
     pub two : p ≡ q → ⊥
 
   -- the places of two different sites, or the check that applies before all others
-  abbrev pub Placed : Book E → ℕ → ℕ → Result (ℕ × ℕ) Fault → Type 0
-  Placed b x y (Ok p) = TwoPlaces b x y p.0 p.1
+  abbrev pub Placed : Book E → ℕ → ℕ → Result Pair Fault → Type 0
+  Placed b x y (Ok p) = TwoPlaces b x y p.a p.b × (p.net.sites ≡ vec_len b.sites) × (p.net.lines.now ≡ lines_of b)
   Placed b x y (Err f) = ((rest : Option Ground) → sites_check b x y rest ≡ Some (ground_of f)) × FewShown b x y f
 
   -- no check applies to the booking, and its routes are planned

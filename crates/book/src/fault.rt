@@ -1,8 +1,9 @@
-ghost use Rattle.std.specs.Prelude.{◌≡◌};
+ghost use Rattle.std.specs.Prelude.{◌≡◌, Some};
 ghost use Rattle.book.specs.declared.fault.Fault.TheVariants.{Network};
-ghost use Rattle.book.specs.Grounds.{fault_number, fault_layer};
+ghost use Rattle.book.specs.Grounds.{fault_number, fault_layer, layer_above, layer_word};
 
 use netfile::NetworkFault;
+use std::fmt;
 
 /// The layer that speaks a denial.
 #[derive(Debug, Clone, Copy, PartialEq, Eq)]
@@ -11,6 +12,31 @@ pub enum Layer {
     OfRecord,
     OfNetwork,
     OfBook,
+}
+
+impl From<netfile::Layer> for Layer {
+    ghost from_gives = { λ l r. r ≡ layer_above l };
+
+    fn from(layer: netfile::Layer) -> Layer {
+        match layer {
+            netfile::Layer::File => Layer::OfFile,
+            netfile::Layer::Record => Layer::OfRecord,
+            netfile::Layer::Network => Layer::OfNetwork,
+        }
+    }
+}
+
+impl fmt::Display for Layer {
+    ghost output = { λ l. Some (layer_word l) };
+
+    fn fmt<W: fmt::Write>(&self, f: &mut fmt::Formatter<W>) -> fmt::Result {
+        f.write_str(match self {
+            Layer::OfFile => "file",
+            Layer::OfRecord => "record",
+            Layer::OfNetwork => "network",
+            Layer::OfBook => "book",
+        })
+    }
 }
 
 /// Why a call on the book was denied, with what comes along. A fault of the file is carried whole.
@@ -22,6 +48,7 @@ pub enum Fault {
     SameSite,
     LevelOutOfRange,
     NumbersSpent,
+    // The level and a side that shows it, apart: a `Flow` here would be taken apart by every caller and by the C interface.
     TooFewRoutes(usize, u64),
     NoSuchBooking,
     ShortList,
@@ -66,11 +93,7 @@ impl Fault {
         ensures { result ≡ fault_layer self }
     {
         match self {
-            Fault::Network(fault) => match fault.layer() {
-                netfile::Layer::File => Layer::OfFile,
-                netfile::Layer::Record => Layer::OfRecord,
-                netfile::Layer::Network => Layer::OfNetwork,
-            },
+            Fault::Network(fault) => fault.layer().into(),
             _ => Layer::OfBook,
         }
     }

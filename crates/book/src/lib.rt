@@ -1,11 +1,13 @@
 #![tactic(auto)]
 
-mod changes;
 mod fault;
 mod held;
+mod listing;
+mod pair;
 mod standing;
 mod tables;
 mod ticket;
+mod tree;
 
 pub use fault::{Cut, Fault, Layer};
 pub use held::Book;

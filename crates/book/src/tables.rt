@@ -1,69 +1,29 @@
 //! Work on the tables of a book, each lent alone.
 
-ghost use Rattle.std.specs.Prelude.{◌≡◌, ℕ, ◌+◌, ◌^◌, ◌<◌, ◌≤◌, true, false, ◌++◌, map, length, take, drop, if◌then◌else◌, None, vec_len, vec_capacity, MatchOption, slice_index, slice_set};
+ghost use Rattle.std.specs.Prelude.{◌≡◌, ℕ, ◌+◌, ◌^◌, ◌<◌, ◌≤◌, true, false, List, ◌++◌, length, take, drop, if◌then◌else◌, vec_len, vec_capacity, MatchOption, slice_index, slice_set};
 ghost use Rattle.network.specs.declared.line.LineState.TheVariants.{Free, Held};
 ghost use Rattle.network.specs.Lines.{line_at};
 ghost use Rattle.network.specs.Lists.{among};
-ghost use Rattle.netfile.specs.Meaning.{first_fault, sites_in, lines_in};
 ghost use Rattle.book.specs.Calls.{site_number};
 ghost use Rattle.book.specs.Ledger.{with_state};
 ghost use Rattle.book.specs.Tables.{held_by, total_shown, stands};
-ghost use Rattle.book.specs.Listings.{positions_told, numbers_told, given_to, Found};
+ghost use Rattle.book.specs.Listings.{Gives, positions_told, numbers_told, given_to, Found};
 
+use crate::listing::{Entry, Reading};
 use crate::standing::Standing;
-use netfile::{NetworkFile, Numbered};
 use network::{Line, LineState, Site};
 
-/// A table of sites, to be searched by number.
-#[derive(Clone, Copy)]
-pub(crate) struct SiteTable<'a> {
-    pub sites: &'a [Site],
-}
-
-impl Numbered for SiteTable<'_> {
-    ghost numbers = { λ t. map (λ s. s.number) t.sites.now };
-
-    fn count(&self) -> usize {
-        self.sites.len()
-    }
-
-    fn number(&self, i: usize) -> u16 {
-        if i < self.sites.len() {
-            self.sites[i].number
-        } else {
-            0
-        }
-    }
-}
-
-/// Lays out the sites of an accepted file.
-pub(crate) fn lay_sites(sites: &mut Vec<Site>, file: &NetworkFile<'_>)
-    requires accepted { first_fault file.now.bytes.now ≡ None }
-    requires empty { vec_len sites.old ≡ 0 }
-    requires room { length (sites_in file.now.bytes.now) ≤ vec_capacity sites.old }
-    ensures items { sites.new.items ≡ sites_in file.now.bytes.now }
-    ensures capacity { vec_capacity sites.new ≡ vec_capacity sites.old }
+/// Lays out, in an empty list, what a function gives at each of the first positions.
+pub(crate) fn lay<T, F: Fn(usize) -> Option<T>>(list: &mut Vec<T>, count: usize, at: F)
+    requires callable { F.IsAlwaysCallable at }
+    requires empty { vec_len list.old ≡ 0 }
+    requires room { count ≤ vec_capacity list.old }
+    ensures items { (xs : List T) → length xs ≡ count → Gives (F.post at) xs → list.new.items ≡ xs }
+    ensures capacity { vec_capacity list.new ≡ vec_capacity list.old }
 {
-    'lay: for i in 0..file.site_count() {
-        match file.site(i) {
-            Some(site) => sites.push_reserved(site),
-            None => unreachable(),
-        }
-    }
-}
-
-/// Lays out the lines of an accepted file.
-pub(crate) fn lay_lines(lines: &mut Vec<Line>, file: &NetworkFile<'_>)
-    requires accepted { first_fault file.now.bytes.now ≡ None }
-    requires empty { vec_len lines.old ≡ 0 }
-    requires room { length (lines_in file.now.bytes.now) ≤ vec_capacity lines.old }
-    ensures items { lines.new.items ≡ lines_in file.now.bytes.now }
-    ensures capacity { vec_capacity lines.new ≡ vec_capacity lines.old }
-{
-    'lay: for i in 0..file.line_count() {
-        match file.line(i) {
-            Some(line) => lines.push_reserved(line),
-            None => unreachable(),
+    'lay: for i in 0..count {
+        if let Some(x) = at(i) {
+            list.push_reserved(x);
         }
     }
 }
@@ -75,8 +35,9 @@ pub(crate) fn name_places(sites: &[Site], list: &mut [u16])
     ensures named { (i : ℕ) → i < length sites.now → slice_index list.new i ≡ site_number sites.now (slice_index list.old i) }
     ensures rest { (i : ℕ) → length sites.now ≤ i → slice_index list.new i ≡ slice_index list.old i }
 {
-    'name: for i in 0..sites.len() {
-        list[i] = sites[list[i] as usize].number;
+    let front = &mut list[..sites.len()];
+    'name: for entry in front.iter_mut() {
+        *entry = sites[usize::from(*entry)].number;
     }
 }
 
@@ -86,15 +47,11 @@ pub(crate) fn hold(lines: &mut Vec<Line>, listed: &[u16], number: u16)
     ensures len { vec_len lines.new ≡ vec_len lines.old }
     ensures capacity { vec_capacity lines.new ≡ vec_capacity lines.old }
     ensures items { lines.new.items ≡ given_to number (positions_told 0 listed.now) lines.old.items }
-    ensures ends { (p : ℕ) → p < vec_len lines.old → ((line_at lines.new.items p).first ≡ (line_at lines.old.items p).first) × ((line_at lines.new.items p).second ≡ (line_at lines.old.items p).second) }
 {
-    let mut left = 0;
-    'give: for i in 0..listed.len() {
-        if left == 0 {
-            left = listed[i];
-        } else {
-            give(lines, listed[i] as usize, number);
-            left -= 1;
+    let mut reading = Reading::new();
+    'give: for x in listed {
+        if let Entry::Position(at) = reading.read(*x) {
+            give(lines, usize::from(at), number);
         }
     }
 }
@@ -109,21 +66,19 @@ fn give(lines: &mut Vec<Line>, at: usize, number: u16)
     lines[at].state = LineState::Held(number);
 }
 
-/// Writes the line numbers of listed routes: each count as it is, and for each position the number of its line.
-pub(crate) fn tell(lines: &[Line], listed: &[u16], numbers: &mut [u16])
+/// Shows listed routes: each count as it is, and for each position the number of its line.
+pub(crate) fn tell(shown: &mut Vec<u16>, lines: &[Line], listed: &[u16])
     requires inside { (p : ℕ) → among (positions_told 0 listed.now) p ≡ true → p < length lines.now }
-    requires room { length listed.now ≤ length numbers.old }
-    ensures { take (length listed.now) numbers.new ≡ numbers_told lines.now 0 listed.now }
+    requires room { vec_len shown.old + length listed.now ≤ vec_capacity shown.old }
+    ensures items { shown.new.items ≡ shown.old.items ++ numbers_told lines.now 0 listed.now }
+    ensures capacity { vec_capacity shown.new ≡ vec_capacity shown.old }
 {
-    let mut left = 0;
-    'write: for i in 0..listed.len() {
-        if left == 0 {
-            left = listed[i];
-            numbers[i] = listed[i];
-        } else {
-            numbers[i] = lines[listed[i] as usize].number;
-            left -= 1;
-        }
+    let mut reading = Reading::new();
+    'write: for x in listed {
+        shown.push_reserved(match reading.read(*x) {
+            Entry::Count(count) => count,
+            Entry::Position(at) => lines[usize::from(at)].number,
+        });
     }
 }
 
@@ -133,11 +88,9 @@ pub(crate) fn free_all(lines: &mut Vec<Line>, number: u16)
     ensures capacity { vec_capacity lines.new ≡ vec_capacity lines.old }
     ensures line { (p : ℕ) → p < vec_len lines.old → line_at lines.new.items p ≡ (if held_by number (line_at lines.old.items p).state then with_state Free (line_at lines.old.items p) else line_at lines.old.items p) }
 {
-    'free: for i in 0..lines.len() {
-        if let LineState::Held(n) = lines[i].state {
-            if n == number {
-                lines[i].state = LineState::Free;
-            }
+    'free: for line in lines.iter_mut() {
+        if line.state == LineState::Held(number) {
+            line.state = LineState::Free;
         }
     }
 }
@@ -150,15 +103,16 @@ pub(crate) struct Stretch {
     pub length: usize,
 }
 
-/// Finds the row of a number.
+/// Finds the row of a number. The rows rise by number, but a stretch begins after the lengths of all rows before its own,
+/// so that a binary search would still be followed by this walk.
 pub(crate) fn find_row(rows: &[Standing], number: u16) -> Option<Stretch>
     requires { total_shown rows.now < 2 ^ 64 }
     ensures { MatchOption result (stands number rows.now ≡ false) (λ f. Found rows.now number f.row f.from f.length) }
 {
     let mut from = 0;
-    'seek: for row in 0..rows.len() {
-        let length = rows[row].length;
-        if rows[row].number == number {
+    'seek: for (row, booking) in rows.iter().enumerate() {
+        let length = booking.length;
+        if booking.number == number {
             return Some(Stretch { row, from, length });
         }
         from += length;
@@ -173,7 +127,5 @@ pub(crate) fn cut_out(shown: &mut Vec<u16>, from: usize, length: usize)
     ensures len { vec_len shown.new + length ≡ vec_len shown.old }
     ensures capacity { vec_capacity shown.new ≡ vec_capacity shown.old }
 {
-    let all = shown.len();
-    shown.copy_within(from + length..all, from);
-    shown.truncate(all - length);
+    drop(shown.drain(from..from + length));
 }

@@ -6,12 +6,13 @@ ghost use Rattle.book.specs.Ledger.{started};
 ghost use Rattle.book.specs.Runs.{Lawful, BookedByLaw, ShowedByLaw, ListedByLaw};
 
 use super::Book;
-use crate::changes::free_lines;
 use crate::fault::{Cut, Fault};
-use crate::tables::cut_out;
+use crate::listing::MOST_LISTED;
+use crate::tables::{cut_out, free_all};
 use crate::ticket::{Denied, Ticket};
+use crate::tree::tree_of;
 use cuttree::Tree;
-use network::{Engine, Line, Site};
+use network::{Engine, Line, MOST_LINES, MOST_SITES, Site};
 use std::alloc::{AllocError, Global};
 use std::marker::PhantomData;
 
@@ -21,10 +22,10 @@ impl<E> Book<E> {
     pub fn new(heap: Global) -> Result<Book<E>, AllocError>
         ensures { IfOk result (λ b. (sites_of b ≡ []) × (lines_of b ≡ []) × (rows_of b ≡ []) × (shown_of b ≡ []) × (b.mark ≡ 0) × (b.count ≡ 0)) }
     {
-        let sites = Vec::with_capacity(heap, 64)?;
-        let lines = Vec::with_capacity(heap, 512)?;
-        let standing = Vec::with_capacity(heap, 512)?;
-        let shown = Vec::with_capacity(heap, 1024)?;
+        let sites = Vec::with_capacity(heap, MOST_SITES)?;
+        let lines = Vec::with_capacity(heap, MOST_LINES)?;
+        let standing = Vec::with_capacity(heap, MOST_LINES)?;
+        let shown = Vec::with_capacity(heap, MOST_LISTED)?;
         Ok(Book {
             sites,
             lines,
@@ -64,8 +65,8 @@ impl<E> Book<E> {
     pub fn level(&self, first: u16, second: u16) -> Result<usize, Fault>
         ensures { LevelAsked self.now first second result }
     {
-        let (a, b) = self.places(first, second)?;
-        Ok(self.level_at(a, b))
+        let pair = self.places(first, second)?;
+        Ok(self.tree.level(pair.a, pair.b).unwrap())
     }
 
     /// Writes for each site in order the number of the first site in its group at level `k`, and answers how many
@@ -101,7 +102,6 @@ impl<E: Engine> Book<E> {
         ensures { Released self.old ticket self.new result }
     {
         let number = ticket.number;
-        let sites = self.sites.len();
         let Some(stretch) = self.standing_of(&ticket) else {
             return Err(Denied {
                 fault: Fault::NoSuchBooking,
@@ -110,7 +110,8 @@ impl<E: Engine> Book<E> {
         };
         cut_out(&mut self.shown, stretch.from, stretch.length);
         let _ = self.standing.remove(stretch.row);
-        self.tree = free_lines::<E>(&mut self.lines, sites, number);
+        free_all(&mut self.lines, number);
+        self.tree = tree_of::<E>(&self.sites, &self.lines);
         ticket.spend();
         Ok(())
     }
@@ -119,12 +120,12 @@ impl<E: Engine> Book<E> {
     pub fn cut(&self, first: u16, second: u16) -> Result<Cut, Fault>
         ensures { CutAsked self.now first second result }
     {
-        let (a, b) = self.places(first, second)?;
-        let (level, side) = self.parted(a, b);
+        let pair = self.places(first, second)?;
+        let flow = pair.flow::<E>(&mut [0; MOST_LINES]);
         Ok(Cut {
-            level,
-            side,
-            size: side.count_ones(),
+            level: flow.value,
+            side: flow.side,
+            size: flow.side.count_ones(),
         })
     }
 }

@@ -1,21 +1,20 @@
 //! The steps of the calls on a book.
 
-ghost use Rattle.std.specs.Prelude.{◌≡◌, ◌+◌, ◌<◌, ◌≤◌, length, None, vec_len, ◌≢◌};
-ghost use Rattle.network.specs.Answers.{Carries, PartedBy};
-ghost use Rattle.network.specs.Cuts.{level_of};
-ghost use Rattle.netfile.specs.Meaning.{first_fault};
-ghost use Rattle.book.specs.Calls.{sites_of, lines_of, Opened, Booked, Showed, GroupsListed, Started};
+ghost use Rattle.std.specs.Prelude.{◌≡◌, ◌≤◌, not, length, vec_len};
+ghost use Rattle.book.specs.Calls.{k_out, Opened, Booked, Showed, GroupsListed, Started};
 ghost use Rattle.book.specs.Plans.{StandsAt, Placed, Chosen, Prepared};
 
 use super::Book;
-use crate::changes::{take_lines, tree_of};
 use crate::fault::Fault;
+use crate::listing::MOST_LISTED;
+use crate::pair::Pair;
 use crate::standing::Standing;
-use crate::tables::{SiteTable, Stretch, find_row, lay_lines, lay_sites, name_places, tell};
+use crate::tables::{Stretch, find_row, hold, lay, name_places, tell};
 use crate::ticket::Ticket;
+use crate::tree::tree_of;
 use netfile::{NetworkFile, find};
-use network::{Engine, SiteWork};
-use routes::take_routes;
+use network::{Engine, MOST_LINES, Network};
+use routes::{Marking, take_routes};
 
 /// How many bookings a book accepts.
 const LAST_NUMBER: u16 = 65535;
@@ -26,9 +25,7 @@ impl<E> Book<E> {
     pub(super) fn copy_out(&self, ticket: &Ticket, list: &mut [u16]) -> Result<usize, Fault>
         ensures { Showed self.now ticket.now list.old list.new result }
     {
-        let Some(stretch) = self.standing_of(ticket) else {
-            return Err(Fault::NoSuchBooking);
-        };
+        let stretch = self.standing_of(ticket).ok_or(Fault::NoSuchBooking)?;
         let from = stretch.from;
         let length = stretch.length;
         if list.len() < length {
@@ -43,19 +40,15 @@ impl<E> Book<E> {
     pub(super) fn list_groups(&self, k: u32, list: &mut [u16]) -> Result<usize, Fault>
         ensures { GroupsListed self.now k list.old list.new result }
     {
-        if k == 0 || k > 512 {
+        if !is_level(k) {
             return Err(Fault::LevelOutOfRange);
         }
         if list.len() < self.sites.len() {
             return Err(Fault::ShortList);
         }
-        match self.tree.groups(k, list) {
-            Some(count) => {
-                name_places(&self.sites, list);
-                Ok(count)
-            }
-            None => unreachable(),
-        }
+        let count = self.tree.groups(k, list).unwrap();
+        name_places(&self.sites, list);
+        Ok(count)
     }
 
     /// Where the booking of a ticket stands; none where the ticket is not one of this book.
@@ -69,33 +62,19 @@ impl<E> Book<E> {
     }
 
     /// The places of two different sites.
-    pub(super) fn places(&self, first: u16, second: u16) -> Result<(usize, usize), Fault>
+    pub(super) fn places(&self, first: u16, second: u16) -> Result<Pair<'_>, Fault>
         ensures { Placed self.now first second result }
     {
-        let table = SiteTable { sites: &self.sites };
-        let Some(a) = find(&table, first) else {
-            return Err(Fault::NoSuchSite(first));
-        };
-        let Some(b) = find(&table, second) else {
-            return Err(Fault::NoSuchSite(second));
-        };
+        let a = find(&self.sites, first).ok_or(Fault::NoSuchSite(first))?;
+        let b = find(&self.sites, second).ok_or(Fault::NoSuchSite(second))?;
         if first == second {
             return Err(Fault::SameSite);
         }
-        Ok((a, b))
-    }
-
-    /// The level of two different places.
-    pub(super) fn level_at(&self, a: usize, b: usize) -> usize
-        requires first { a < vec_len self.now.sites }
-        requires second { b < vec_len self.now.sites }
-        requires two { a ≢ b }
-        ensures { result ≡ level_of (length (sites_of self.now)) (lines_of self.now) a b }
-    {
-        match self.tree.level(a, b) {
-            Some(level) => level,
-            None => unreachable(),
-        }
+        let net = Network {
+            sites: self.sites.len(),
+            lines: &self.lines,
+        };
+        Ok(Pair { net, a, b })
     }
 
     /// The ticket of a number.
@@ -115,7 +94,7 @@ impl<E: Engine> Book<E> {
     pub(super) fn begin(&mut self, bytes: &[u8], mark: u32) -> Result<(), Fault>
         ensures { Opened self.old bytes.now mark self.new result }
     {
-        if self.sites.len() != 0 {
+        if !self.sites.is_empty() {
             return Err(Fault::AlreadyOpen);
         }
         let file = NetworkFile::open(bytes)?;
@@ -125,102 +104,88 @@ impl<E: Engine> Book<E> {
 
     /// Lays out the network of a file in a book that holds none.
     fn lay_out(&mut self, file: &NetworkFile<'_>, mark: u32)
-        requires unopened { vec_len self.old.sites ≡ 0 }
-        requires accepted { first_fault file.now.bytes.now ≡ None }
+        requires { vec_len self.old.sites ≡ 0 }
         ensures { Started file.now.bytes.now mark self.new }
     {
-        lay_sites(&mut self.sites, file);
-        lay_lines(&mut self.lines, file);
+        lay(&mut self.sites, file.site_count(), |place| file.site(place));
+        lay(
+            &mut self.lines,
+            file.line_count(),
+            |position| file.line(position),
+        );
         self.mark = mark;
-        self.tree = tree_of::<E>(self.sites.len(), &self.lines);
+        self.tree = tree_of::<E>(&self.sites, &self.lines);
     }
 
     /// The work of a booking.
     pub(super) fn enter(&mut self, first: u16, second: u16, k: u32) -> Result<Ticket, Fault>
         ensures { Booked self.old first second k self.new result }
     {
-        let mut list = [0u16; 1024];
+        let mut list = [0u16; MOST_LISTED];
         let length = self.plan(first, second, k, &mut list)?;
         let listed = &list[0..length];
-        let mut numbers = [0u16; 1024];
-        tell(&self.lines, listed, &mut numbers);
+        tell(&mut self.shown, &self.lines, listed);
         let number = self.count + 1;
-        let sites = self.sites.len();
-        let _ = self.shown.extend_from_slice(&numbers[0..length]);
         self.standing.push_reserved(Standing {
             number,
             held: length - k as usize,
             length,
         });
         self.count = number;
-        self.tree = take_lines::<E>(&mut self.lines, sites, listed, number);
+        hold(&mut self.lines, listed, number);
+        self.tree = tree_of::<E>(&self.sites, &self.lines);
         Ok(self.ticket(number))
     }
 
     /// What a booking takes: its routes, written into the list as counts and positions.
-    fn plan(&self, first: u16, second: u16, k: u32, list: &mut [u16]) -> Result<usize, Fault>
-        requires { 1024 ≤ length list.old }
+    fn plan(
+        &self,
+        first: u16,
+        second: u16,
+        k: u32,
+        list: &mut [u16; MOST_LISTED],
+    ) -> Result<usize, Fault>
         ensures { Prepared self.now first second k list.new result }
     {
-        let (a, b) = self.places(first, second)?;
-        if k == 0 || k > 512 {
+        let pair = self.places(first, second)?;
+        if !is_level(k) {
             return Err(Fault::LevelOutOfRange);
         }
         if self.count >= LAST_NUMBER {
             return Err(Fault::NumbersSpent);
         }
-        self.choose(a, b, k as usize, list)
+        choose::<E>(&pair, k as usize, list)
     }
+}
 
-    /// Chooses `k` separate routes, or says by level and side why there are too few.
-    fn choose(&self, a: usize, b: usize, k: usize, list: &mut [u16]) -> Result<usize, Fault>
-        requires first { a < vec_len self.now.sites }
-        requires second { b < vec_len self.now.sites }
-        requires two { a ≢ b }
-        requires some { k ≤ 512 }
-        requires room { 1024 ≤ length list.old }
-        ensures { Chosen (length (sites_of self.now)) (lines_of self.now) a b k list.new result }
-    {
-        let mut marks = [0u8; 512];
-        let (value, side) = self.ask(a, b, &mut marks);
-        let level = self.level_at(a, b);
-        if level < k {
-            return Err(Fault::TooFewRoutes(level, side));
-        }
-        match take_routes(self.sites.len(), &self.lines, &marks, a, b, value, k, list) {
-            Some(length) => Ok(length),
-            None => unreachable(),
-        }
-    }
+/// Whether a level can be asked for.
+fn is_level(k: u32) -> bool
+    ensures { result ≡ not (k_out k) }
+{
+    (1..=512).contains(&k)
+}
 
-    /// The level of two different places, and a side that shows it.
-    pub(super) fn parted(&self, a: usize, b: usize) -> (usize, u64)
-        requires first { a < vec_len self.now.sites }
-        requires second { b < vec_len self.now.sites }
-        requires two { a ≢ b }
-        ensures value { result.0 ≡ level_of (length (sites_of self.now)) (lines_of self.now) a b }
-        ensures parted { PartedBy (length (sites_of self.now)) (lines_of self.now) a b result.0 result.1 }
-    {
-        let mut unread = [0u8; 512];
-        self.ask(a, b, &mut unread)
+/// Chooses `k` separate routes between two places, or says by level and side why there are too few.
+fn choose<E: Engine>(
+    pair: &Pair<'_>,
+    k: usize,
+    list: &mut [u16; MOST_LISTED],
+) -> Result<usize, Fault>
+    requires { k ≤ 512 }
+    ensures { Chosen pair.now.net.sites pair.now.net.lines.now pair.now.a pair.now.b k list.new result }
+{
+    let mut marks = [0u8; MOST_LINES];
+    let flow = pair.flow::<E>(&mut marks);
+    if flow.value < k {
+        return Err(Fault::TooFewRoutes(flow.value, flow.side));
     }
-
-    /// Asks the engine for two different places.
-    fn ask(&self, a: usize, b: usize, marks: &mut [u8]) -> (usize, u64)
-        requires first { a < vec_len self.now.sites }
-        requires second { b < vec_len self.now.sites }
-        requires two { a ≢ b }
-        requires room { 512 ≤ length marks.old }
-        ensures value { result.0 ≡ level_of (length (sites_of self.now)) (lines_of self.now) a b }
-        ensures parted { PartedBy (length (sites_of self.now)) (lines_of self.now) a b result.0 result.1 }
-        ensures carried { Carries (lines_of self.now) marks.new a b result.0 }
-    {
-        let mut work = [SiteWork {
-            parent: 0,
-            seen: 0,
-            height: 0,
-            surplus: 0,
-        }; 64];
-        E::flow(self.sites.len(), &self.lines, a, b, marks, &mut work)
-    }
+    let marking = Marking {
+        sites: pair.net.sites,
+        lines: pair.net.lines,
+        marks: &marks,
+        a: pair.a,
+        b: pair.b,
+        value: flow.value,
+    };
+    Ok(take_routes(&marking, k, list).unwrap())
 }

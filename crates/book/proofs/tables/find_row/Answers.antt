@@ -6,8 +6,8 @@ use Rattle.book.proofs.tables.find_row.Goals as goal
 pub seek-init : goal.seek-init
 seek-init c = sought_start c.args.rows.now c.args.number
 
-pub returns-then-rows-row : goal.returns-then-rows-row
-returns-then-rows-row c =
+pub returns-then-booking-number : goal.returns-then-booking-number
+returns-then-booking-number c =
     sought_found c.args.rows.now c.args.number c.seek.row c.seek.from c.seek.invariant (search rules) (eq-eqb _ _ (search rules))
 
 pub overflow_add-from : goal.overflow_add-from

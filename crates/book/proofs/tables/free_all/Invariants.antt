@@ -1,4 +1,4 @@
-use Rattle.std.proofs.Common.{◌≡◌, ℕ, ◌<◌, ◌≤◌, cond, vec_items, vec_len, vec_capacity}
+use Rattle.std.proofs.Common.{◌≡◌, ℕ, ◌<◌, ◌≤◌, cond}
 use Rattle.network.specs.declared.line.LineState.TheVariants.{Free}
 use Rattle.network.specs.Lines.{line_at}
 use Rattle.book.specs.Ledger.{with_state}
@@ -6,4 +6,6 @@ use Rattle.book.specs.Tables.{held_by}
 use Rattle.book.proofs.tables.free_all.Given as goal
 
 abbrev pub invariant-free : goal.invariant-free
-invariant-free l = (vec_len l.lines ≡ vec_len l.initial.lines) × (vec_capacity l.lines ≡ vec_capacity l.initial.lines) × ((p : ℕ) → p < l.i → line_at (vec_items l.lines) p ≡ cond (held_by l.number (line_at (vec_items l.initial.lines) p).state) (with_state Free (line_at (vec_items l.initial.lines) p)) (line_at (vec_items l.initial.lines) p)) × ((p : ℕ) → l.i ≤ p → line_at (vec_items l.lines) p ≡ line_at (vec_items l.initial.lines) p)
+invariant-free l =
+    ((p : ℕ) → p < l.line-index → line_at l.line-items p ≡ cond (held_by l.number (line_at l.initial.line-items p).state) (with_state Free (line_at l.initial.line-items p)) (line_at l.initial.line-items p))
+    × ((p : ℕ) → l.line-index ≤ p → line_at l.line-items p ≡ line_at l.initial.line-items p)

@@ -1,43 +1,39 @@
-use Rattle.std.proofs.Common.{vec_items, vec_len, vec_capacity, refl, ap, ◌∙◌, arith}
-use Rattle.book.specs.Listings.{positions_told}
-use Rattle.book.proofs.Listings.{giving_count, giving_line, giving_inside, giving_all, given_ends}
+use Rattle.std.proofs.Common.{ℕ, set, vec_items, vec_len, vec_capacity, ap, ◌∙◌, arith}
+use Rattle.network.specs.declared.line.LineState.TheVariants.{Held}
+use Rattle.network.specs.Lines.{line_at}
+use Rattle.book.specs.Ledger.{with_state}
+use Rattle.book.proofs.Listings.{giving_count, giving_line, giving_inside, giving_all}
 use Rattle.book.proofs.tables.hold.Goals as goal
-use Rattle.book.proofs.tables.hold.Goals.{then-left-eq0, else-left-eq0}
+use Rattle.book.proofs.tables.hold.Goals.{in_default, in-Position}
 
-pub give-init : goal.give-init
-give-init c = (refl, refl, record { leads = refl; inside = c.requires })
+pub give-requires : goal.give-requires
+give-requires c =
+    let inside = giving_inside c.args.number (vec_len c.args.lines.now) c.args.listed.now (vec_items c.args.lines.now) c.give.reading.left c.give.x-index (vec_items c.give.lines) c.give.invariant.2
+    c.give-test.true c.read.new.self.left c.in-Position.at c.in-Position.ensures in
+    omega (arith, inside, c.from.ensures, c.give.invariant.0)
 
 pub give-preserved : goal.give-preserved
 give-preserved c =
     let n = c.args.number in let m = vec_len c.args.lines.now in let xs = c.args.listed.now in let start = vec_items c.args.lines.now in
-    let now = vec_items c.give.lines in
-    elim c.if-left-eq0.branch [
-      | then-left-eq0 w ↦ (
-        ap vec_len w.lines-is ∙ c.give.invariant.0,
-        ap vec_capacity w.lines-is ∙ c.give.invariant.1,
-        giving_count n m xs start c.give.left c.give.i now c.give.invariant.2 c.give-test.true w.if-left-eq0.true
-            c.if-left-eq0.left (vec_items c.if-left-eq0.lines) w.left-is (ap vec_items w.lines-is),
+    let now = vec_items c.give.lines in let left = c.give.reading.left in let left' = c.read.new.self.left in
+    elim c.match-read.branch [
+      | in_default w ↦ rw w.lines-is (
+        c.give.invariant.0,
+        c.give.invariant.1,
+        giving_count n m xs start left c.give.x-index now c.give.invariant.2 c.give-test.true left' _ w.in_default.ensures,
       )
-      | else-left-eq0 w ↦ (
-        ap vec_len w.lines-is ∙ w.give-else-left-eq0.ensures.len ∙ c.give.invariant.0,
-        ap vec_capacity w.lines-is ∙ w.give-else-left-eq0.ensures.capacity ∙ c.give.invariant.1,
-        giving_line n m xs start c.give.left c.give.i now c.give.invariant.2 c.give-test.true w.if-left-eq0.false
-            c.if-left-eq0.left (vec_items c.if-left-eq0.lines) w.left-is (ap vec_items w.lines-is ∙ w.give-else-left-eq0.ensures.items),
+      | in-Position w ↦ (
+        ap vec_len w.lines-is ∙ w.give-in-Position.ensures.len ∙ c.give.invariant.0,
+        ap vec_capacity w.lines-is ∙ w.give-in-Position.ensures.capacity ∙ c.give.invariant.1,
+        giving_line n m xs start left c.give.x-index now c.give.invariant.2 c.give-test.true left' w.in-Position.at (vec_items c.match-read.lines)
+            w.in-Position.ensures (ap vec_items w.lines-is ∙ w.give-in-Position.ensures.items ∙ ap (λ (p : ℕ). set now p (with_state (Held n) (line_at now p))) w.from.ensures),
       )
     ]
 
-pub give-requires : goal.give-requires
-give-requires c =
-    let g = giving_inside c.args.number (vec_len c.args.lines.now) c.args.listed.now (vec_items c.args.lines.now) c.give.left c.give.i (vec_items c.give.lines) c.give.invariant.2 c.give-test.true c.if-left-eq0.false in
-    omega (arith, g, c.give.invariant.0)
-
 pub returns : goal.returns
-returns c =
-    let start = vec_items c.args.lines.now in
-    let done = giving_all c.args.number (vec_len c.args.lines.now) c.args.listed.now start c.give.left c.give.i (vec_items c.give.lines) c.give.invariant.2 c.give-test.false in
-    record {
-      len = c.give.invariant.0;
-      capacity = c.give.invariant.1;
-      items = done;
-      ends = λ p l. given_ends c.args.number (positions_told 0 c.args.listed.now) start (vec_items c.give.lines) done p (omega (arith, l, c.args.lines.now.ok.0));
-    }
+returns c = record {
+  len = c.give.invariant.0;
+  capacity = c.give.invariant.1;
+  items =
+      giving_all c.args.number (vec_len c.args.lines.now) c.args.listed.now (vec_items c.args.lines.now) c.give.reading.left c.give.x-index (vec_items c.give.lines) c.give.invariant.2 c.give-test.false;
+}

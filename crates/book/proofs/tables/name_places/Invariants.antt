@@ -4,5 +4,5 @@ use Rattle.book.proofs.tables.name_places.Given as goal
 
 abbrev pub invariant-name : goal.invariant-name
 invariant-name l =
-    ((p : ℕ) → p < l.i → get_or l.list p 0 ≡ site_number l.sites (get_or l.initial.list p 0))
-    × ((p : ℕ) → l.i ≤ p → get_or l.list p 0 ≡ get_or l.initial.list p 0)
+    ((p : ℕ) → p < l.entry-index → get_or l.front p 0 ≡ site_number l.sites (get_or l.initial.front p 0))
+    × ((p : ℕ) → l.entry-index ≤ p → get_or l.front p 0 ≡ get_or l.initial.front p 0)

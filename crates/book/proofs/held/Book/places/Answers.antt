@@ -1,19 +1,17 @@
-use Rattle.std.proofs.Common.{◌≡◌, List, Some, vec_items, sym, ap, ◌∙◌, arith}
-use Rattle.network.specs.declared.site.Site.{Site}
-use Rattle.book.specs.Calls.{place_in}
-use Rattle.book.proofs.Places.{place_within, places_apart}
+use Rattle.std.proofs.Common.{sym, ◌∙◌, arith}
+use Rattle.book.proofs.Places.{two_of}
 use Rattle.book.proofs.held.Book.places.Goals as goal
 
+pub invariant_of-result : goal.invariant_of-result
+invariant_of-result g c =
+    let t = two_of c.args.self.now c.args.first c.args.second c.in_ok-a.a c.in_ok-b.b (sym c.find.ensures ∙ c.in_ok-a.ensures.ok_part) (sym c.find-2.ensures ∙ c.in_ok-b.ensures.ok_part)
+    c.if-first-second.false in
+    record { first = omega (arith, t.first_within, c.len.ensures); second = omega (arith, t.second_within, c.len.ensures); two = t.two }
+
 pub returns : goal.returns
-returns g c =
-    let b = c.args.self.now in let ss = vec_items b.sites in
-    let e : place_in ss c.args.first ≡ Some c.in-Some.a = ap (λ (l : List Site). place_in l c.args.first) (sym c.deref.ensures.value) ∙ sym c.in-Some.ensures in
-    let f : place_in ss c.args.second ≡ Some c.in-Some-find.b = ap (λ (l : List Site). place_in l c.args.second) (sym c.deref.ensures.value) ∙ sym c.in-Some-find.ensures in
-    record {
-      first = e;
-      second = f;
-      apart = c.if-first-second.false;
-      first_within = omega (arith, place_within ss c.args.first c.in-Some.a e, b.sites.ok.0);
-      second_within = omega (arith, place_within ss c.args.second c.in-Some-find.b f, b.sites.ok.0);
-      two = places_apart ss c.args.first c.args.second c.in-Some.a c.in-Some-find.b e f c.if-first-second.false;
-    }
+returns g c = (
+  two_of c.args.self.now c.args.first c.args.second c.in_ok-a.a c.in_ok-b.b (sym c.find.ensures ∙ c.in_ok-a.ensures.ok_part) (sym c.find-2.ensures ∙ c.in_ok-b.ensures.ok_part)
+      c.if-first-second.false,
+  c.len.ensures,
+  c.deref.ensures.value,
+)
