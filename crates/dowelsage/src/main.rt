@@ -17,20 +17,16 @@ use options::{Method, read_options};
 use session::{release_all, serve};
 
 // Opens the file that was named, if one was, and answers the input.
-fn work<E: Engine>(
-    rt: &HostRuntime,
-    desk: &mut Desk<E>,
-    file: &Option<String>,
-) -> anyhow::Result<()> {
+fn work<E: Engine>(rt: &HostRuntime, desk: &mut Desk<E>, file: Option<&str>) -> anyhow::Result<()> {
     if let Some(path) = file {
-        open_at_start(rt, desk, path.as_str())?;
+        open_at_start(rt, desk, path)?;
     }
     serve(rt, desk)?;
     release_all(rt, desk)
 }
 
 // One session. Whatever comes, every booking that still stands is released at its end.
-fn run<E: Engine>(rt: &HostRuntime, file: &Option<String>) -> anyhow::Result<()> {
+fn run<E: Engine>(rt: &HostRuntime, file: Option<&str>) -> anyhow::Result<()> {
     let mut desk: Desk<E> = Desk::new(rt.alloc())?;
     let ended = work(rt, &mut desk, file);
     desk.close();
@@ -39,9 +35,11 @@ fn run<E: Engine>(rt: &HostRuntime, file: &Option<String>) -> anyhow::Result<()>
 
 fn start(rt: &HostRuntime) -> anyhow::Result<()> {
     let options = read_options(rt)?;
+    let file = options.file.as_ref().map(|path| path.as_str());
+    // The engine is a type, and a word picks it only as the program runs: a table of functions would say the same.
     match options.method {
-        Method::Shortest => run::<ShortestRoute>(rt, &options.file),
-        Method::Push => run::<Push>(rt, &options.file),
+        Method::Shortest => run::<ShortestRoute>(rt, file),
+        Method::Push => run::<Push>(rt, file),
     }
 }
 

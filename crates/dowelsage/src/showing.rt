@@ -1,5 +1,8 @@
 //! The routes of a booking, as the book shows them.
 
+ghost use Rattle.std.specs.Prelude.{◌≡◌, ℕ, List, length};
+ghost use Rattle.replies.specs.Listed.{HoldsRoutes};
+
 use crate::reply::reply;
 use desk::Desk;
 use network::Engine;
@@ -25,7 +28,9 @@ fn print_routes<E>(
 }
 
 // How many routes a showing wrote.
-fn count_routes(shown: &[u16]) -> usize {
+fn count_routes(shown: &[u16]) -> usize
+    ensures { (routes : List (List ℕ)) × HoldsRoutes shown.now routes × (result ≡ length routes) }
+{
     Routes(shown).count()
 }
 
