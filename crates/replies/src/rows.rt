@@ -1,7 +1,7 @@
 //! The rows of which replies are made.
 
 use crate::callsign::CallSign;
-use book::{Cut, Fault, Layer};
+use book::{Cut, Fault};
 use network::side::contains;
 use network::{Line, LineState, Site};
 use std::fmt;
@@ -37,19 +37,10 @@ pub struct Denial<'a> {
     pub sites: &'a [Site],
 }
 
-fn layer_name(layer: Layer) -> &'static str {
-    match layer {
-        Layer::OfFile => "file",
-        Layer::OfRecord => "record",
-        Layer::OfNetwork => "network",
-        Layer::OfBook => "book",
-    }
-}
-
 impl fmt::Display for Denial<'_> {
     fn fmt<W: fmt::Write>(&self, f: &mut fmt::Formatter<W>) -> fmt::Result {
         let number = self.fault.number();
-        let layer = layer_name(self.fault.layer());
+        let layer = self.fault.layer();
         write!(f, "denied {number}, {layer}")?;
         match self.fault {
             Fault::Network(fault) => {

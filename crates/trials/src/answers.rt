@@ -1,8 +1,9 @@
 //! Asks an engine, and looks at its answer.
 
 use crate::old::{Old, is_old};
-use crate::taking::{NotTaken, Taking, take};
-use network::{Engine, Line, SiteWork, side};
+use crate::taking::{NotTaken, take};
+use network::{Engine, Flow, Line, SiteWork, side};
+use routes::Marking;
 use std::error::Error;
 use std::fmt;
 
@@ -19,13 +20,6 @@ pub struct Question {
     pub b: usize,
     pub marks: usize,
     pub work: usize,
-}
-
-/// What an engine answers: how many routes there are, and a side that shows that there are no more.
-#[derive(Clone, Copy)]
-pub struct Flow {
-    pub value: usize,
-    pub side: u64,
 }
 
 /// What an engine answered, none where it declined, and what was found of it.
@@ -104,14 +98,15 @@ fn take_all(
     value: usize,
 ) -> Result<(), NotTaken> {
     let Question { sites, a, b, .. } = question;
-    let taking = Taking {
+    let marking = Marking {
+        sites,
+        lines,
+        marks,
         a,
         b,
         value,
-        k: value,
-        room: 1024,
     };
-    take(sites, lines, marks, taking)
+    take(&marking, value, 1024)
 }
 
 // Looks at an answer of the engine, and at what stands in the marks after it.
@@ -124,21 +119,6 @@ fn look_at(lines: &[Line], marks: &[u8], question: Question, flow: Flow) -> Resu
     Ok(())
 }
 
-// The engine's answer; where it declines, it answers nothing.
-fn flow_of<E: Engine>(
-    lines: &[Line],
-    question: Question,
-    marks: &mut [u8],
-    work: &mut [SiteWork],
-) -> Option<Flow> {
-    let Question { sites, a, b, .. } = question;
-    let (value, side) = E::flow(sites, lines, a, b, marks, work);
-    if value == 0 && side == 0 {
-        return None;
-    }
-    Some(Flow { value, side })
-}
-
 // Asks the engine with these two lists, which it leaves as they are where it declines.
 fn ask_with<E: Engine>(
     lines: &[Line],
@@ -146,7 +126,8 @@ fn ask_with<E: Engine>(
     marks: &mut [u8],
     work: &mut [SiteWork],
 ) -> Asked {
-    let flow = flow_of::<E>(lines, question, marks, work);
+    let Question { sites, a, b, .. } = question;
+    let flow = E::flow(sites, lines, a, b, marks, work);
     let finding = match flow {
         Some(flow) => look_at(lines, marks, question, flow),
         None if is_old(marks, 0) && is_old(work, 0) => Err(Unsound::Declined),

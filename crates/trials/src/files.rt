@@ -1,13 +1,5 @@
-use netfile::{Layer, NetworkFault, NetworkFile};
+use netfile::{NetworkFault, NetworkFile};
 use std::io;
-
-fn layer_name(layer: Layer) -> &'static str {
-    match layer {
-        Layer::File => "file",
-        Layer::Record => "record",
-        Layer::Network => "network",
-    }
-}
 
 fn print_opened(rt: &HostRuntime, file: &NetworkFile) -> io::Result<()> {
     let sites = file.site_count();
@@ -17,7 +9,7 @@ fn print_opened(rt: &HostRuntime, file: &NetworkFile) -> io::Result<()> {
 
 fn print_denied(rt: &HostRuntime, fault: NetworkFault) -> io::Result<()> {
     let number = fault.number();
-    let layer = layer_name(fault.layer());
+    let layer = fault.layer();
     let place = fault.place();
     println!(rt; ": denied {number}, {layer}: byte {place}")
 }

@@ -1,10 +1,10 @@
 //! Asks both engines, and prints their answers.
 
-use crate::answers::{Asked, Flow, MARKS, Question, Unsound, WORK, ask};
+use crate::answers::{Asked, MARKS, Question, Unsound, WORK, ask};
 use crate::networks::Network;
 use anyhow::anyhow;
 use engines::{Push, ShortestRoute};
-use network::side;
+use network::{Flow, side};
 use std::io;
 
 // What is printed of an engine that declined.

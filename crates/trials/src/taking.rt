@@ -4,8 +4,7 @@ use crate::networks::Network;
 use crate::old::{Old, is_old};
 use crate::walks::all_walk;
 use anyhow::anyhow;
-use network::Line;
-use routes::take_routes;
+use routes::{Marking, take_routes};
 use std::alloc::{AllocError, Global};
 use std::error::Error;
 use std::fmt;
@@ -31,41 +30,23 @@ impl fmt::Display for NotTaken {
 
 impl Error for NotTaken {}
 
-/// Which routes are taken: k from a to b, out of marks that carry a value, into a list with some room.
-#[derive(Clone, Copy)]
-pub struct Taking {
-    pub a: usize,
-    pub b: usize,
-    pub value: usize,
-    pub k: usize,
-    pub room: usize,
-}
-
-// Takes the routes into the list and walks them; the list past them has to stay as it was.
-fn take_into(
-    sites: usize,
-    lines: &[Line],
-    marks: &[u8],
-    taking: Taking,
-    list: &mut [u16],
-) -> Result<(), NotTaken> {
-    let Taking { a, b, value, k, .. } = taking;
-    match take_routes(sites, lines, marks, a, b, value, k, list) {
+// Takes `k` routes into the list and walks them; the list past them has to stay as it was.
+fn take_into(marking: &Marking<'_>, k: usize, list: &mut [u16]) -> Result<(), NotTaken> {
+    match take_routes(marking, k, list) {
         None if is_old(list, 0) => Err(NotTaken::Refused),
         Some(count)
             if is_old(list, count)
-                && list
-                    .get(..count)
-                    .is_some_and(|numbers| all_walk(lines, numbers, a, b, k)) => { Ok(()) }
+                && list.get(..count).is_some_and(|numbers| {
+                    all_walk(marking.lines, numbers, marking.a, marking.b, k)
+                }) => { Ok(()) }
         _ => Err(NotTaken::Wrong),
     }
 }
 
-/// Takes the routes and walks them.
-pub fn take(sites: usize, lines: &[Line], marks: &[u8], taking: Taking) -> Result<(), NotTaken> {
+/// Takes `k` routes, into a list with some room, and walks them.
+pub fn take(marking: &Marking<'_>, k: usize, room: usize) -> Result<(), NotTaken> {
     let mut list = [u16::OLD; ROOM];
-    let room = &mut list[..taking.room.min(ROOM)];
-    take_into(sites, lines, marks, taking, room)
+    take_into(marking, k, &mut list[..room.min(ROOM)])
 }
 
 fn marks_of(heap: Global, numbers: &[usize]) -> Result<Vec<u8>, AllocError> {
@@ -85,15 +66,16 @@ pub fn print_taking(rt: &HostRuntime, net: &mut Network, numbers: &[usize]) -> a
     };
     net.hold(held);
     let marks = marks_of(rt.alloc(), marks)?;
-    let taking = Taking {
+    let marking = Marking {
+        sites: net.sites.len(),
+        lines: &net.lines,
+        marks: &marks,
         a: *a,
         b: *b,
         value: *value,
-        k: *k,
-        room: *room,
     };
     print!(rt; " {a}-{b}: {k} of {value} into {room}: ")?;
-    match take(net.sites.len(), &net.lines, &marks, taking) {
+    match take(&marking, *k, *room) {
         Ok(()) => println!(rt; "routes walk")?,
         Err(fault) => println!(rt; "{fault}")?,
     }
