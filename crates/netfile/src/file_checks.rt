@@ -20,6 +20,7 @@ const MOST_SITES: usize = 64;
 const MOST_LINES: usize = 512;
 
 /// The checks of header and parts, in their order.
+#[tactic(auto, using(crate::proofs::Head::in_head), unfolding(crate::specs::Meaning::file_fault))]
 pub fn check_file(bytes: &[u8]) -> Result<Parts<'_>, FileFault>
     ensures fault { fault_in result ≡ file_fault bytes.now }
     ensures lent { IfOk result (λ p. p.bytes.now ≡ bytes.now) }

@@ -16,6 +16,7 @@ pub struct Part<'a, const N: usize> {
 
 impl<'a, const N: usize> Part<'a, N> {
     /// The records in an extent of the file.
+    #[tactic(auto, using(crate::proofs::Chunks::records_are_chunks))]
     pub fn read(bytes: &'a [u8], extent: Extent) -> Part<'a, N>
         requires sized { IsRecordSize N }
         requires within { extent.start + extent.size ≤ length bytes.now }
