@@ -45,6 +45,7 @@ impl<const N: usize> Numbered for Part<'_, N> {
     }
 
     fn number(&self, i: usize) -> u16 {
+        // A closure for `map_or` is proved without what the part says of its records' size.
         match self.records.get(i) {
             Some(record) => number_of(record[0], record[1]),
             None => 0,
