@@ -9,6 +9,7 @@ use Rattle.network.specs.declared.engine.SiteWork.{SiteWork}
 use Rattle.network.specs.Lines.{line_at, Joins, AllJoin}
 use Rattle.network.specs.Flow.{mark_at, one, leaves, arrives, outs, ins, Marked, AllMarked}
 use Rattle.network.proofs.Sums.{sum_marked_set}
+use Rattle.engines.specs.declared.residual.Way.{Way}
 use Rattle.engines.specs.Hands.{InHand}
 use Rattle.engines.specs.Arcs.{tail, head, residual, arc, pushed, sent_over}
 
@@ -30,6 +31,10 @@ joins_at n m ls e j = subst (λ (x : ℕ). AllJoin x ls) (sym e) j
 
 pub joined_in : (net : Network) (ms : List ℕ) (ws : List SiteWork) → InHand net ms ws → AllJoin (length ws) net.lines.now
 joined_in net ms ws h = joins_at net.sites (length ws) net.lines.now h.kept net.joined
+
+-- what holds of a way's line and direction, where both are known
+pub over_by : (P : ℕ → Bool → Type 0) (w : Way) (k : ℕ) (e : Bool) → w ≡ record { line = k; from_first = e } → P w.line w.from_first → P k e
+over_by P w k e is h = subst (λ (x : Way). P x.line x.from_first) is h
 
 -- two directions of a line are one, or the second leads back
 pub turned : (l : Line) (e t : Bool) → (t ≡ e) ⊎ ((head l t ≡ tail l e) × (tail l t ≡ head l e))

@@ -8,7 +8,7 @@ use Rattle.network.specs.declared.line.Line.{Line}
 use Rattle.network.specs.declared.engine.SiteWork.{SiteWork}
 use Rattle.network.specs.Lines.{line_at, AllJoin}
 use Rattle.engines.specs.Arcs.{tail, head, arc}
-use Rattle.engines.specs.Search.{no_site, site_at, seen_at, parent_at, unseen, Step, Rooted, Round, Shut, reaches, adds_up, noted, seen_after}
+use Rattle.engines.specs.Search.{no_site, site_at, seen_at, parent_at, unseen, Step, Rooted, Round, reaches, adds_up, noted, seen_after}
 use Rattle.engines.proofs.Arcs.{head_below, joins_at}
 
 -- a step whose line goes by another name
@@ -41,6 +41,10 @@ grown ws q k d h z =
           let is : f new ≡ 0 = cond-false (eqb (d + 1) 0) 1 0 (ne_eqb (d + 1) 0 (λ e. omega arith)) in
           omega (arith, sum_by-set f ws q new no_site h);
     }
+
+-- the arc (k, e) has been tried, and has reached its far end or not
+abbrev pub Reached : List Line → List ℕ → ℕ → List SiteWork → List SiteWork → Bool → ℕ → Bool → Type 0
+Reached ls ms d ws ws' hit k e = (hit ≡ reaches ls ms d k e ws) × (ws' ≡ seen_after ls d k e ws hit)
 
 -- the arcs tried so far, and one more
 abbrev And : (ℕ → Bool → Type 0) → ℕ → Bool → ℕ → Bool → Type 0
@@ -148,13 +152,9 @@ module _ (ls : List Line) (ms : List ℕ) (a d : ℕ) where
 
   -- both arcs of the line i
   pub round_line : (found : Bool) (ws ws₁ ws₂ : List SiteWork) (i : ℕ) (forth back : Bool) → i < length ls → AllJoin (length ws) ls → length ws₁ ≡ length ws →
-      Round ls ms a d found (λ k _. k < i) ws →
-      forth ≡ reaches ls ms d i true ws →
-      ws₁ ≡ seen_after ls d i true ws forth →
-      back ≡ reaches ls ms d i false ws₁ →
-      ws₂ ≡ seen_after ls d i false ws₁ back →
+      Round ls ms a d found (λ k _. k < i) ws → Reached ls ms d ws ws₁ forth i true → Reached ls ms d ws₁ ws₂ back i false →
       Round ls ms a d ((found || forth) || back) (λ k _. k < i + 1) ws₂
-  round_line found ws ws₁ ws₂ i forth back inside joins size r f1 f2 b1 b2 =
+  round_line found ws ws₁ ws₂ i forth back inside joins size r f b =
       let Before : ℕ → Bool → Type 0 = λ k _. k < i in
       round_weaken ((found || forth) || back) (And (And Before i true) i false) (λ k _. k < i + 1) ws₂
       (λ k t lt. elim (cases_eq k i) [
@@ -162,7 +162,7 @@ module _ (ls : List Line) (ms : List ℕ) (a d : ℕ) where
         | inr ne ↦ inl (inl (omega arith))
       ])
       (round_reach (found || forth) (And Before i true) ws₁ ws₂ i false back inside (joins_at (length ws) (length ws₁) ls size joins)
-      (round_reach found Before ws ws₁ i true forth inside joins r f1 f2) b1 b2)
+      (round_reach found Before ws ws₁ i true forth inside joins r f.0 f.1) b.0 b.1)
 
   -- the same round by other names
   pub round_as : (found found' : Bool) (Done : ℕ → Bool → Type 0) (ws ws' : List SiteWork) → found' ≡ found → ws' ≡ ws →
@@ -172,11 +172,11 @@ module _ (ls : List Line) (ms : List ℕ) (a d : ℕ) where
 
   -- where neither arc has reached anything, nor one before, the records are as they were
   pub round_idle : (found forth back : Bool) (ws₀ ws ws₁ ws₂ : List SiteWork) (i : ℕ) → ((found || forth) || back) ≡ false →
-      (found ≡ false → ws ≡ ws₀) → ws₁ ≡ seen_after ls d i true ws forth → ws₂ ≡ seen_after ls d i false ws₁ back → ws₂ ≡ ws₀
-  round_idle false false false ws₀ ws ws₁ ws₂ i off old forth_is back_is = back_is ∙ forth_is ∙ old refl
-  round_idle false false true ws₀ ws ws₁ ws₂ i off old forth_is back_is = absurd (true≢false off)
-  round_idle false true back ws₀ ws ws₁ ws₂ i off old forth_is back_is = absurd (true≢false off)
-  round_idle true forth back ws₀ ws ws₁ ws₂ i off old forth_is back_is = absurd (true≢false off)
+      (found ≡ false → ws ≡ ws₀) → Reached ls ms d ws ws₁ forth i true → Reached ls ms d ws₁ ws₂ back i false → ws₂ ≡ ws₀
+  round_idle false false false ws₀ ws ws₁ ws₂ i off old f b = b.1 ∙ f.1 ∙ old refl
+  round_idle false false true ws₀ ws ws₁ ws₂ i off old f b = absurd (true≢false off)
+  round_idle false true back ws₀ ws ws₁ ws₂ i off old f b = absurd (true≢false off)
+  round_idle true forth back ws₀ ws ws₁ ws₂ i off old f b = absurd (true≢false off)
 
   -- a line whose layers do not add up reaches nothing
   no_reach : (ws : List SiteWork) (i : ℕ) (e : Bool) → adds_up d (line_at ls i) ws ≡ false → reaches ls ms d i e ws ≡ false
@@ -189,33 +189,7 @@ module _ (ls : List Line) (ms : List ℕ) (a d : ℕ) where
       let found_is : ((found || false) || false) ≡ found = grind (arith, nat_tests) in
       let none = no_reach ws i in
       subst (λ (x : Bool). Round ls ms a d x (λ k _. k < i + 1) ws) found_is
-      (round_line found ws ws ws i false false inside joins refl r (sym (none true (sym is ∙ off))) refl (sym (none false (sym is ∙ off))) refl)
-
-  -- the next round, where this one found something
-  pub round_next : (found : Bool) (ws : List SiteWork) → found ≡ true → Round ls ms a d found (λ k _. k < length ls) ws →
-      Round ls ms a (d + 1) false (λ k _. ⊥) ws
-  round_next found ws is r =
-      record {
-        started = omega arith;
-        root = r.root;
-        tree = r.tree;
-        top = λ q. omega (arith, r.top q);
-        below = λ k e lt lit low tk. elim (cases_eq (seen_at ws (tail (line_at ls k) e)) d) [
-          | inl eq ↦ r.here k e lt eq tk
-          | inr ne ↦ r.below k e lt lit (omega arith) tk
-        ];
-        here = λ k e no'. absurd no';
-        quiet = λ _ q. r.top q;
-        room = omega (arith, r.room, cond-true {A = ℕ} found 1 0 is);
-      }
-
-  -- where it found nothing, no arc leaves what is seen
-  pub round_shut : (found : Bool) (ws : List SiteWork) → found ≡ false → Round ls ms a d found (λ k _. k < length ls) ws → Shut ls ms ws
-  round_shut found ws is r k e lt lit tk =
-      elim (cases_eq (seen_at ws (tail (line_at ls k) e)) d) [
-        | inl eq ↦ r.here k e lt eq tk
-        | inr ne ↦ r.below k e lt lit (omega (arith, r.quiet is (tail (line_at ls k) e))) tk
-      ]
+      (round_line found ws ws ws i false false inside joins refl r (sym (none true (sym is ∙ off)), refl) (sym (none false (sym is ∙ off)), refl))
 
 -- the first round
 pub round_first : (ls : List Line) (ms : List ℕ) (a : ℕ) (ws ws' : List SiteWork) → a < length ws → ((p : ℕ) → seen_at ws p ≡ 0) →

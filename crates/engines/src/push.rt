@@ -75,15 +75,8 @@ fn try_line(net: &Network<'_>, marks: &mut [u8], work: &mut [SiteWork], p: usize
     requires loaded { Loaded work.old p }
     ensures { TriedLine net.now.lines.now marks.old work.old marks.new work.new p k result }
 {
-    let forth = Way {
-        line: k,
-        from_first: true,
-    };
-    let back = Way {
-        line: k,
-        from_first: false,
-    };
-    try_push(net, marks, work, p, forth) || try_push(net, marks, work, p, back)
+    try_push(net, marks, work, p, Way::over(k, true))
+        || try_push(net, marks, work, p, Way::over(k, false))
 }
 
 // Sends one unit of p's surplus one step down, over the first of p's lines that takes it.
@@ -155,17 +148,8 @@ fn saturate(question: &Question<'_>, marks: &mut [u8], work: &mut [SiteWork])
     ensures { Opening question.now.net.lines.now marks.new work.new question.now.a (length question.now.net.lines.now) }
 {
     for (k, line) in question.net.lines.iter().enumerate() {
-        let from_first = line.first as usize == question.a;
-        let _ = try_send(
-            &question.net,
-            marks,
-            work,
-            question.a,
-            Way {
-                line: k,
-                from_first,
-            },
-        );
+        let way = Way::over(k, line.first as usize == question.a);
+        let _ = try_send(&question.net, marks, work, question.a, way);
     }
 }
 

@@ -7,7 +7,8 @@ ghost use Rattle.engines.specs.Arcs.{code, tail, head, arc, sent_over};
 
 use network::Network;
 
-// A line taken in one of its two directions: from its first place to its second, or back.
+// A line taken in one of its two directions: from its first place to its second, or back. Which one it is comes from
+// comparing places, and is only asked by `if`: an enum of the two would be made by an `if` from each comparison.
 #[derive(Clone, Copy)]
 pub struct Way {
     pub line: usize,
@@ -15,6 +16,12 @@ pub struct Way {
 }
 
 impl Way {
+    pub fn over(line: usize, from_first: bool) -> Way
+        ensures { result ≡ record { line = line; from_first = from_first } }
+    {
+        Way { line, from_first }
+    }
+
     // The place that a unit comes from which goes this way, and the place that it comes to.
     pub fn ends(self, net: &Network<'_>) -> (usize, usize)
         requires { self.line < length net.now.lines.now }

@@ -62,26 +62,8 @@ fn scan_round(net: &Network<'_>, marks: &[u8], work: &mut [SiteWork], layer: u16
     let mut found = false;
     for (k, line) in net.lines.iter().enumerate() {
         if may_reach(line, work, layer) {
-            let forth = try_reach(
-                net,
-                marks,
-                work,
-                Way {
-                    line: k,
-                    from_first: true,
-                },
-                layer,
-            );
-            let back = try_reach(
-                net,
-                marks,
-                work,
-                Way {
-                    line: k,
-                    from_first: false,
-                },
-                layer,
-            );
+            let forth = try_reach(net, marks, work, Way::over(k, true), layer);
+            let back = try_reach(net, marks, work, Way::over(k, false), layer);
             found = found | forth | back;
         }
     }

@@ -21,10 +21,7 @@ fn step_back(net: &Network<'_>, marks: &mut [u8], work: &[SiteWork], c: usize) -
     ensures after { marks.new ≡ sent_over marks.old (parent_at work.now c) (way_in net.now.lines.now work.now c) }
 {
     let line = work[c].parent as usize;
-    let way = Way {
-        line,
-        from_first: net.lines[line].second as usize == c,
-    };
+    let way = Way::over(line, net.lines[line].second as usize == c);
     way.send(marks);
     way.ends(net).0
 }
