@@ -5,6 +5,7 @@ ghost use Rattle.book.specs.Grounds.{fault_number, fault_layer, layer_above, lay
 use netfile::NetworkFault;
 use std::fmt;
 
+// Flat, with the three of the reader beside the one of the book: a match on a layer nested in a layer would be two.
 /// The layer that speaks a denial.
 #[derive(Debug, Clone, Copy, PartialEq, Eq)]
 pub enum Layer {

@@ -1,10 +1,7 @@
 use Rattle.std.proofs.Common.{arith, rules}
 use Rattle.std.proofs.lemmas.Bool.{eq-eqb, ne_eqb}
-use Rattle.book.proofs.Seeking.{sought_more, sought_found, sought_none, sought_within, sought_start}
+use Rattle.book.proofs.Seeking.{sought_more, sought_found, sought_none, sought_within}
 use Rattle.book.proofs.tables.find_row.Goals as goal
-
-pub seek-init : goal.seek-init
-seek-init c = sought_start c.args.rows.now c.args.number
 
 pub returns-then-booking-number : goal.returns-then-booking-number
 returns-then-booking-number c =

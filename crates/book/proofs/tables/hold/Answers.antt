@@ -30,10 +30,7 @@ give-preserved c =
       )
     ]
 
-pub returns : goal.returns
-returns c = record {
-  len = c.give.invariant.0;
-  capacity = c.give.invariant.1;
-  items =
-      giving_all c.args.number (vec_len c.args.lines.now) c.args.listed.now (vec_items c.args.lines.now) c.give.reading.left c.give.x-index (vec_items c.give.lines) c.give.invariant.2 c.give-test.false;
-}
+pub returns-clause-items : goal.returns-clause-items
+returns-clause-items c =
+    giving_all c.args.number (vec_len c.args.lines.now) c.args.listed.now (vec_items c.args.lines.now) c.give.reading.left c.give.x-index (vec_items c.give.lines)
+    c.give.invariant.2 c.give-test.false

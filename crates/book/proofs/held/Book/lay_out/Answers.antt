@@ -14,10 +14,6 @@ pub lay-requires-clause-room : goal.lay-requires-clause-room
 lay-requires-clause-room g c =
     let file = c.args.file.now in omega (arith, c.site_count.ensures, (file_facts file.bytes.now file.accepted).few_sites, c.args.self.now.site_room)
 
-pub lay-requires-2-clause-empty : goal.lay-requires-2-clause-empty
-lay-requires-2-clause-empty g c =
-    let b = c.args.self.now in let none = empty_book b c.requires in omega (arith, ap length none.lines, b.lines.ok.0)
-
 pub lay-requires-2-clause-room : goal.lay-requires-2-clause-room
 lay-requires-2-clause-room g c =
     let file = c.args.file.now in omega (arith, c.line_count.ensures, (file_facts file.bytes.now file.accepted).few_lines, c.args.self.now.line_room)
