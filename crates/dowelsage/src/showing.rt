@@ -1,6 +1,7 @@
 //! The routes of a booking, as the book shows them.
 
 ghost use Rattle.std.specs.Prelude.{◌≡◌, ℕ, List, length};
+ghost use Rattle.std.specs.Iterator.{Drains};
 ghost use Rattle.replies.specs.Listed.{HoldsRoutes};
 
 use crate::reply::reply;
@@ -27,11 +28,18 @@ fn print_routes<E>(
     Ok(())
 }
 
+// How many routes a walk gives until its end.
+fn count_given(walk: Routes<'_>) -> usize
+    ensures { (routes : _) × Drains ⟦<Routes<'static> as Iterator>⟧.next_gives walk.entry routes × (result ≡ length routes) }
+{
+    walk.count()
+}
+
 // How many routes a showing wrote.
 fn count_routes(shown: &[u16]) -> usize
     ensures { (routes : List (List ℕ)) × HoldsRoutes shown.now routes × (result ≡ length routes) }
 {
-    Routes(shown).count()
+    count_given(Routes(shown))
 }
 
 /// Shows a booking of the desk, under a heading.
