@@ -1,7 +1,7 @@
 //! What the rules say of a call on the made network of 12 sites.
 
-use crate::walk::crossing;
 use book::{Book, Cut, Fault};
+use cases::crossing;
 use network::side::contains;
 use network::{Line, LineState};
 
@@ -35,13 +35,9 @@ impl Check {
 }
 
 /// The place of a site; none where there is no site of that number.
-fn place_of(number: u16) -> Option<u8> {
+fn place_of(number: u16) -> Option<usize> {
     let place = number.checked_sub(FIRST_SITE)?;
-    if place < SITES {
-        u8::try_from(place).ok()
-    } else {
-        None
-    }
+    (place < SITES).then_some(usize::from(place))
 }
 
 /// Two sites that are asked about, by their numbers.
@@ -53,7 +49,7 @@ pub struct Ends {
 
 impl Ends {
     /// Their places; none where one is no site.
-    pub fn places(self) -> Option<(u8, u8)> {
+    pub fn places(self) -> Option<(usize, usize)> {
         Some((place_of(self.first)?, place_of(self.second)?))
     }
 
@@ -87,8 +83,8 @@ impl Ends {
         let Some((a, b)) = self.places() else {
             return false;
         };
-        contains(side, usize::from(a))
-            && !contains(side, usize::from(b))
+        contains(side, a)
+            && !contains(side, b)
             && side < 1 << SITES
             && crossing(book.lines(), side) == level
     }
@@ -166,7 +162,7 @@ pub fn first_ones(list: &[u16]) -> usize {
 
 // The entry of a site in a group list.
 fn entry_of(list: &[u16], number: u16) -> Option<u16> {
-    list.get(usize::from(place_of(number)?)).copied()
+    list.get(place_of(number)?).copied()
 }
 
 // Whether a site's entry names a site of the same entry that does not come after.

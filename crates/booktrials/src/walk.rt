@@ -3,6 +3,7 @@
 ghost use Rattle.std.specs.Prelude.{length};
 ghost use Rattle.std.specs.Iterator.{at_most};
 
+use cases::across;
 use network::side::{contains, insert};
 use network::{Line, LineState};
 use std::mem;
@@ -16,25 +17,14 @@ pub struct Booking<'a, 'b> {
     pub before: &'a [Line],
     pub after: &'b [Line],
     pub number: u16,
-    pub first: u8,
-    pub second: u8,
-}
-
-// Where a line leads from a place; none where it does not touch it.
-fn far_end(line: &Line, here: u8) -> Option<u8> {
-    if line.first == here {
-        Some(line.second)
-    } else if line.second == here {
-        Some(line.first)
-    } else {
-        None
-    }
+    pub first: usize,
+    pub second: usize,
 }
 
 // One step of a route: the place after it; none where the line is unknown, used already or not at this place.
-fn step(lines: &[Line], used: &mut [bool], here: u8, number: u16) -> Option<u8> {
+fn step(lines: &[Line], used: &mut [bool], here: usize, number: u16) -> Option<usize> {
     let position = lines.iter().position(|line| line.number == number)?;
-    let there = far_end(lines.get(position)?, here)?;
+    let there = across(lines.get(position)?, here)?;
     if mem::replace(used.get_mut(position)?, true) {
         return None;
     }
@@ -42,17 +32,19 @@ fn step(lines: &[Line], used: &mut [bool], here: u8, number: u16) -> Option<u8> 
 }
 
 // Whether the line numbers lead from the first place to the second and to no place twice.
+// The trials of the engines walk positions of lines that are free now, where this walks numbers over the lines as they
+// were: a walker for both would be handed each step by a closure.
 fn walk_route(booking: Booking<'_, '_>, used: &mut [bool], numbers: &[u16]) -> bool {
     let mut here = booking.first;
-    let mut seen = insert(0, usize::from(here));
+    let mut seen = insert(0, here);
     for number in numbers {
         let Some(there) = step(booking.before, used, here, *number) else {
             return false;
         };
-        if contains(seen, usize::from(there)) {
+        if contains(seen, there) {
             return false;
         }
-        seen = insert(seen, usize::from(there));
+        seen = insert(seen, there);
         here = there;
     }
     here == booking.second
@@ -136,15 +128,4 @@ pub fn held_by(lines: &[Line], number: u16) -> usize {
 /// How many lines are held.
 pub fn held(lines: &[Line]) -> usize {
     lines.iter().filter(|line| !line.is_free()).count()
-}
-
-/// How many free lines cross a side.
-pub fn crossing(lines: &[Line], side: u64) -> usize {
-    lines
-        .iter()
-        .filter(|line| line.is_free())
-        .filter(|line| {
-            contains(side, usize::from(line.first)) != contains(side, usize::from(line.second))
-        })
-        .count()
 }

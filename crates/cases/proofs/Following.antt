@@ -11,7 +11,7 @@ use Rattle.netfile.specs.Search.{lowest_where}
 use Rattle.netfile.specs.Layout.{numbers_from}
 use Rattle.netfile.specs.Meaning.{sites_in, lines_in, first_fault}
 use Rattle.book.specs.declared.fault.Fault.{Fault}
-use Rattle.book.specs.declared.fault.Fault.TheVariants.{AlreadyOpen, Network, NoSuchSite, SameSite, LevelOutOfRange, NumbersSpent, TooFewRoutes, NoSuchBooking, ShortList}
+use Rattle.book.specs.declared.fault.Fault.TheVariants.{TooFewRoutes}
 use Rattle.book.specs.declared.standing.Standing.{Standing as Row}
 use Rattle.book.specs.declared.ticket.Ticket.{Ticket}
 use Rattle.book.specs.declared.held.Book.{Book}
@@ -24,7 +24,7 @@ use Rattle.book.proofs.Shown.{check_past, taken_shows}
 use Rattle.cases.specs.Table.{worked}
 use Rattle.cases.specs.File.{worked_file}
 use Rattle.cases.specs.Ledgers.{at_first, with_three, given_back, Going, Holding, Returned}
-use Rattle.cases.specs.Outcomes.{few_of, FourDenied, OnlyPair}
+use Rattle.cases.specs.Outcomes.{FourDenied, OnlyPair}
 use Rattle.cases.proofs.Worked.{worked_cases}
 use Rattle.cases.proofs.Meant.{no_fault, four_sites, At, places}
 use Rattle.cases.proofs.Reckoned.{asked, asked_10_20, share_first, cut_back}
@@ -124,10 +124,10 @@ module _ {E : Type 0} where
   four_refused b r h q =
       (q (given_back h.shown) h.going.reached 0 1 (asked_10_20 (given_back h.shown) 4 refl (omega arith) (omega arith) (omega arith))).1.1 (cut_back h.shown)
 
-  -- the denial of four shows three crossing lines
-  shown_cut : (b after : Book E) (v s : ℕ) → Returned b → Booked b 10 20 4 after (Err (TooFewRoutes v s)) → FourDenied (Some (v, s))
+  -- what comes along with the denial of four
+  pub four_shown : (b after : Book E) (v s : ℕ) → Returned b → Booked b 10 20 4 after (Err (TooFewRoutes v s)) → FourDenied (v, s)
   unfolding worked_file sites_in lines_in lowest_where numbers_from holders ended
-  shown_cut b after v s h o =
+  four_shown b after v s h o =
       let asked = asked_10_20 (given_back h.shown) 4 refl (omega arith) (omega arith) (omega arith) in
       let d = ((law_of h.going).smallest 10 20 0 1 4 asked).shown after v s o in
       let p : PartedBy 4 (worked Free) 0 1 v s = d.0 in
@@ -135,21 +135,9 @@ module _ {E : Type 0} where
       let e : v ≡ 3 = omega (arith, least, p.crossed, worked_cases.level_10_20, d.1) in
       (e, subst (λ (z : ℕ). PartedBy 4 (worked Free) 0 1 z s) e p)
 
-  pub four_shown : (b after : Book E) (f : Fault) → Returned b → Booked b 10 20 4 after (Err f) → FourDenied (few_of f)
-  four_shown b after f h o = by_fault f o
-    where
-      checked : (f : Fault) → Booked b 10 20 4 after (Err f) → Some (ground_of f) ≡ Some too_few
-      checked f o =
-          let asked = asked_10_20 (given_back h.shown) 4 refl (omega arith) (omega arith) (omega arith) in
-          sym o.0 ∙ ((law_of h.going).smallest 10 20 0 1 4 asked).denied_as_few.1 (cut_back h.shown)
-
-      by_fault : (f : Fault) → Booked b 10 20 4 after (Err f) → FourDenied (few_of f)
-      by_fault AlreadyOpen o = let e = checked AlreadyOpen o in let z : ◌≡◌ {A = ℕ} 0 1 = cc in absurd (omega arith)
-      by_fault (Network f) o = let e = checked (Network f) o in let z : ◌≡◌ {A = ℕ} 0 1 = cc in absurd (omega arith)
-      by_fault (NoSuchSite j) o = let e = checked (NoSuchSite j) o in let z : ◌≡◌ {A = ℕ} 0 1 = cc in absurd (omega arith)
-      by_fault SameSite o = let e = checked SameSite o in let z : ◌≡◌ {A = ℕ} 0 1 = cc in absurd (omega arith)
-      by_fault LevelOutOfRange o = let e = checked LevelOutOfRange o in let z : ◌≡◌ {A = ℕ} 0 1 = cc in absurd (omega arith)
-      by_fault NumbersSpent o = let e = checked NumbersSpent o in let z : ◌≡◌ {A = ℕ} 0 1 = cc in absurd (omega arith)
-      by_fault (TooFewRoutes v s) o = shown_cut b after v s h o
-      by_fault NoSuchBooking o = let e = checked NoSuchBooking o in let z : ◌≡◌ {A = ℕ} 0 1 = cc in absurd (omega arith)
-      by_fault ShortList o = let e = checked ShortList o in let z : ◌≡◌ {A = ℕ} 0 1 = cc in absurd (omega arith)
+  -- four are denied on no other ground than that there are too few
+  pub only_few : (b after : Book E) (f : Fault) → Returned b → Booked b 10 20 4 after (Err f) → ground_of f ≡ too_few
+  only_few b after f h o =
+      let asked = asked_10_20 (given_back h.shown) 4 refl (omega arith) (omega arith) (omega arith) in
+      let e : Some (ground_of f) ≡ Some too_few =
+      sym o.0 ∙ ((law_of h.going).smallest 10 20 0 1 4 asked).denied_as_few.1 (cut_back h.shown) in cc

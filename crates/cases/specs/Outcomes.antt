@@ -1,27 +1,13 @@
 -- What the worked calls come to.
-use Rattle.std.specs.Prelude.{◌≡◌, ℕ, true, ◌≢◌, List, Some, None, Option, slice_index}
+use Rattle.std.specs.Prelude.{◌≡◌, ℕ, ◌≢◌, List, slice_index}
 use Rattle.network.specs.declared.line.LineState.TheVariants.{Free}
 use Rattle.network.specs.Answers.{PartedBy}
-use Rattle.book.specs.declared.fault.Fault.{Fault}
-use Rattle.book.specs.declared.fault.Fault.TheVariants.{AlreadyOpen, Network, NoSuchSite, SameSite, LevelOutOfRange, NumbersSpent, TooFewRoutes, NoSuchBooking, ShortList}
 use Rattle.cases.specs.declared.outcome.Outcome.{Outcome}
 use Rattle.cases.specs.Table.{worked}
 
-abbrev pub few_of : Fault → Option (ℕ × ℕ)
-few_of AlreadyOpen = None
-few_of (Network f) = None
-few_of (NoSuchSite j) = None
-few_of SameSite = None
-few_of LevelOutOfRange = None
-few_of NumbersSpent = None
-few_of (TooFewRoutes v s) = Some (v, s)
-few_of NoSuchBooking = None
-few_of ShortList = None
-
 -- four routes from 10 to 20 are too few: three lines cross the side that is shown, which holds 10 and not 20
-abbrev pub FourDenied : Option (ℕ × ℕ) → Type 0
-FourDenied None = ⊥
-FourDenied (Some d) = (d.0 ≡ 3) × PartedBy 4 (worked Free) 0 1 3 d.1
+abbrev pub FourDenied : ℕ × ℕ → Type 0
+FourDenied d = (d.0 ≡ 3) × PartedBy 4 (worked Free) 0 1 3 d.1
 
 -- with three routes booked only 30 and 40 share a group at level 1: only they have one entry
 pub record OnlyPair (es : List ℕ) : Type 0 where
@@ -31,11 +17,5 @@ pub record OnlyPair (es : List ℕ) : Type 0 where
   pub two_20_30 : slice_index es 1 ≢ slice_index es 2
 
 pub record Happened (o : Outcome) : Type 0 where
-  pub opened : o.opened ≡ true
-  -- 10 and 20 share a group at level 3
-  pub three_booked : o.three_booked ≡ true
-  pub listed : o.listed ≡ true
   pub entries : OnlyPair o.entries
-  -- the booking still stood
-  pub released : o.released ≡ true
   pub four_denied : FourDenied o.four_denied

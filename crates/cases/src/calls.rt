@@ -1,29 +1,30 @@
 //! Calls on the worked network. What they come to follows from the law that an opening promises, whatever engine the
 //! book asks and whichever routes it chooses.
 
-ghost use Rattle.std.specs.Prelude.{◌≡◌, IfOk};
+ghost use Rattle.std.specs.Prelude.{◌≡◌, IfOk, IfErr, IsOkAnd};
+ghost use Rattle.book.specs.declared.fault.Fault.TheVariants.{TooFewRoutes};
+ghost use Rattle.book.specs.Grounds.{too_few, ground_of};
 ghost use Rattle.book.specs.Calls.{Booked};
 ghost use Rattle.book.specs.Runs.{BookedByLaw};
 ghost use Rattle.cases.specs.File.{worked_file};
 ghost use Rattle.cases.specs.Ledgers.{at_first, Going, Holding, Returned};
-ghost use Rattle.cases.specs.Outcomes.{few_of, FourDenied, Happened};
+ghost use Rattle.cases.specs.Outcomes.{FourDenied, Happened};
+ghost use Rattle.cases.specs.declared.outcome.CallFault.TheVariants.{OutOfMemory};
 
-use crate::outcome::Outcome;
+use crate::outcome::{CallFault, Outcome};
 use book::{Book, Fault, Ticket};
 use network::Engine;
-use std::alloc::{AllocError, Global};
+use std::alloc::Global;
 
 /// Opens the worked network; books three routes from 10 to 20; lists the groups at level 1; releases the three; and
-/// wants four.
-pub fn worked_calls<E: Engine>(heap: Global) -> Result<Outcome, AllocError>
-    ensures { IfOk result Happened }
+/// wants four, which alone is denied.
+pub fn worked_calls<E: Engine>(heap: Global) -> Result<Outcome, CallFault>
+    ensures happened { IfOk result Happened }
+    ensures none_denied { IfErr result (λ e. e ≡ OutOfMemory) }
 {
     let mut book: Book<E> = Book::new(heap)?;
-    let bytes = worked_bytes();
-    match book.open(bytes, 7) {
-        Ok(()) => Ok(once_open(&mut book)),
-        Err(_) => Ok(nothing()),
-    }
+    book.open(worked_bytes(), 7)?;
+    Ok(once_open(&mut book)?)
 }
 
 /// The worked network as a network file: the header, four sites and five lines.
@@ -35,56 +36,55 @@ fn worked_bytes() -> &'static [u8]
       \x01\0\x0a\0\x14\0\x02\0\x0a\0\x14\0\x03\0\x14\0\x1e\0\x04\0\x1e\0\x0a\0\x05\0\x1e\0\x28\0"
 }
 
-fn nothing() -> Outcome {
-    Outcome {
-        opened: false,
-        three_booked: false,
-        listed: false,
-        entries: [0; 4],
-        released: false,
-        four_denied: None,
-    }
-}
-
-fn once_open<E: Engine>(book: &mut Book<E>) -> Outcome
+fn once_open<E: Engine>(book: &mut Book<E>) -> Result<Outcome, Fault>
     requires { Going book.old at_first }
-    ensures { Happened result }
+    ensures { IsOkAnd result Happened }
 {
-    match want_three(book) {
-        Ok(ticket) => with_three(book, ticket),
-        Err(_) => nothing(),
-    }
+    let ticket = want_three(book)?;
+    with_three(book, ticket)
 }
 
-fn with_three<E: Engine>(book: &mut Book<E>, ticket: Ticket) -> Outcome
+fn with_three<E: Engine>(book: &mut Book<E>, ticket: Ticket) -> Result<Outcome, Fault>
     requires { Holding book.old ticket }
-    ensures { Happened result }
+    ensures { IsOkAnd result Happened }
 {
     let mut entries = [0u16; 4];
-    let listed = book.groups(1, &mut entries).is_ok();
+    // While the ticket is owned no denial may leave the function.
+    let listed = book.groups(1, &mut entries);
     match book.release(ticket) {
-        Ok(()) => Outcome {
-            opened: true,
-            three_booked: true,
-            listed,
-            entries,
-            released: true,
-            four_denied: once_returned(book),
-        },
+        Ok(()) => {
+            let four_denied = once_returned(book);
+            listed?;
+            Ok(Outcome {
+                entries,
+                four_denied,
+            })
+        }
         // A denial that cannot be.
         Err(_denied) => unreachable!(),
     }
 }
 
-fn once_returned<E: Engine>(book: &mut Book<E>) -> Option<(usize, u64)>
+fn once_returned<E: Engine>(book: &mut Book<E>) -> (usize, u64)
     requires { Returned book.old }
     ensures { FourDenied result }
 {
     match want_four(book) {
         // A ticket that cannot be.
         Ok(_ticket) => unreachable!(),
-        Err(fault) => few(fault),
+        Err(fault) => shown_with(fault),
     }
+}
+
+/// The level and the side that come along where there are too few routes.
+fn shown_with(fault: Fault) -> (usize, u64)
+    requires { ground_of fault ≡ too_few }
+    ensures { fault ≡ TooFewRoutes result.0 result.1 }
+{
+    let Fault::TooFewRoutes(level, side) = fault else {
+        unreachable!()
+    };
+    (level, side)
 }
 
 fn want_three<E: Engine>(book: &mut Book<E>) -> Result<Ticket, Fault>
@@ -99,14 +99,4 @@ fn want_four<E: Engine>(book: &mut Book<E>) -> Result<Ticket, Fault>
     ensures lawful { BookedByLaw book.old 10 20 4 result }
 {
     book.book(10, 20, 4)
-}
-
-/// What comes along where there are too few routes.
-fn few(fault: Fault) -> Option<(usize, u64)>
-    ensures { result ≡ few_of fault }
-{
-    match fault {
-        Fault::TooFewRoutes(level, side) => Some((level, side)),
-        _ => None,
-    }
 }

@@ -1,9 +1,11 @@
 #![tactic(auto)]
 
 mod calls;
+mod lines;
 mod outcome;
 mod table;
 
 pub use calls::worked_calls;
-pub use outcome::Outcome;
+pub use lines::{across, crossing};
+pub use outcome::{CallFault, Outcome};
 pub use table::worked_lines;

@@ -1,12 +1,37 @@
-/// What the worked calls came to.
-#[derive(Clone, Copy)]
+ghost use Rattle.std.specs.Prelude.{◌≡◌};
+ghost use Rattle.cases.specs.declared.outcome.CallFault.TheVariants.{OutOfMemory, Denied};
+
+use book::Fault;
+use std::alloc::AllocError;
+
+/// What the worked calls came to, each of them accepted.
+#[derive(Debug, Clone, Copy, PartialEq, Eq)]
 pub struct Outcome {
-    pub opened: bool,
-    pub three_booked: bool,
-    pub listed: bool,
     /// The group list at level 1 while the three routes were booked.
     pub entries: [u16; 4],
-    pub released: bool,
     /// The level and the side that came with the denial of four routes.
-    pub four_denied: Option<(usize, u64)>,
+    pub four_denied: (usize, u64),
+}
+
+/// Why the worked calls came to no outcome: memory ran out, or the book denied a call that it is to accept.
+#[derive(Debug, Clone, Copy, PartialEq, Eq)]
+pub enum CallFault {
+    OutOfMemory,
+    Denied(Fault),
+}
+
+impl From<AllocError> for CallFault {
+    ghost from_gives = { λ _ r. r ≡ OutOfMemory };
+
+    fn from(_e: AllocError) -> CallFault {
+        CallFault::OutOfMemory
+    }
+}
+
+impl From<Fault> for CallFault {
+    ghost from_gives = { λ e r. r ≡ Denied e };
+
+    fn from(e: Fault) -> CallFault {
+        CallFault::Denied(e)
+    }
 }

@@ -2,6 +2,7 @@
 
 use crate::old::{Old, is_old};
 use crate::taking::{NotTaken, take};
+use cases::crossing;
 use network::{Engine, Flow, Line, SiteWork, side};
 use routes::Marking;
 use std::error::Error;
@@ -61,18 +62,6 @@ impl From<NotTaken> for Unsound {
     fn from(_fault: NotTaken) -> Unsound {
         Unsound::NoRoutes
     }
-}
-
-fn crosses(line: &Line, cut: u64) -> bool {
-    side::contains(cut, usize::from(line.first)) != side::contains(cut, usize::from(line.second))
-}
-
-// How many free lines cross the side.
-fn crossing(lines: &[Line], cut: u64) -> usize {
-    lines
-        .iter()
-        .filter(|line| line.is_free() && crosses(line, cut))
-        .count()
 }
 
 // The side is to hold a, not b, only places of the network, and to be crossed by `value` free lines.

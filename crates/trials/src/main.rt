@@ -41,6 +41,7 @@ fn run_on(
     net: &mut Network,
     numbers: &[usize],
 ) -> anyhow::Result<()> {
+    // An enum of these kinds with a FromStr would only name each of them three times.
     match kind {
         "worked" => print_worked(rt, net),
         "flow" => print_flow(rt, net, numbers),

@@ -1,22 +1,11 @@
 //! Walks the routes that were taken, line by line.
 
+use cases::across;
 use network::{Line, side};
 use std::mem;
 
 /// A network has no more lines.
 const MOST_LINES: usize = 512;
-
-// The place at the other end of a line; none where the line does not lie at this one.
-fn across(line: &Line, place: usize) -> Option<usize> {
-    let (first, second) = (usize::from(line.first), usize::from(line.second));
-    if first == place {
-        Some(second)
-    } else if second == place {
-        Some(first)
-    } else {
-        None
-    }
-}
 
 /// Walks routes over the lines of a network, of which no two pass the same one.
 #[derive(Drop)]

@@ -1,13 +1,17 @@
-use Rattle.std.proofs.Common.{ℕ, Ok, Option, sym, subst}
+use Rattle.std.proofs.Common.{Ok, Err, subst}
 use Rattle.std.proofs.lemmas.Bool.{true≢false}
-use Rattle.cases.specs.Outcomes.{FourDenied}
-use Rattle.cases.proofs.Following.{four_refused, four_shown}
+use Rattle.book.specs.declared.fault.Fault.{Fault}
+use Rattle.book.specs.Calls.{Booked}
+use Rattle.cases.proofs.Following.{four_refused, four_shown, only_few}
 use Rattle.cases.proofs.calls.once_returned.Goals as goal
 
 pub unreachable-requires : goal.unreachable-requires
 unreachable-requires g c = true≢false (four_refused c.args.book.now (Ok c.in-Ok._ticket) c.requires c.in-Ok.ensures.lawful)
 
+pub shown_with-requires : goal.shown_with-requires
+shown_with-requires g c = only_few c.args.book.now c.want_four.new.book c.in-Err.fault c.requires c.in-Err.ensures.booked
+
 pub returns : goal.returns
 returns g c =
-    subst (λ (o : Option (ℕ × ℕ)). FourDenied o) (sym c.few.ensures)
-    (four_shown c.args.book.now c.want_four.new.book c.in-Err.fault c.requires c.in-Err.ensures.booked)
+    four_shown c.args.book.now c.want_four.new.book c.shown_with.result.0 c.shown_with.result.1 c.requires
+    (subst (λ (f : Fault). Booked c.args.book.now 10 20 4 c.want_four.new.book (Err f)) c.shown_with.ensures c.in-Err.ensures.booked)

@@ -1,4 +1,4 @@
-use Rattle.std.proofs.Common.{ℕ, List, Ok, Err, refl, subst}
+use Rattle.std.proofs.Common.{List, ℕ, Ok, Err, refl, subst}
 use Rattle.book.specs.Ledger.{started}
 use Rattle.book.specs.Calls.{opening_check, Opened}
 use Rattle.book.specs.Runs.{Lawful}
@@ -11,12 +11,12 @@ once_open-requires g c =
     let b = c.in_ok-book.book in
     let first = c.open.new.self in
     opened b first
-    (subst (λ (bs : List ℕ). Opened b bs 7 first (Ok tt)) c.worked_bytes-bytes.ensures c.in-Ok.ensures.opened)
-    (subst (λ (bs : List ℕ). Lawful first (started bs 7)) c.worked_bytes-bytes.ensures (c.in-Ok.ensures.lawful refl))
+    (subst (λ (bs : List ℕ). Opened b bs 7 first (Ok tt)) c.worked_bytes.ensures c.in_ok-open.ensures.opened)
+    (subst (λ (bs : List ℕ). Lawful first (started bs 7)) c.worked_bytes.ensures (c.in_ok-open.ensures.lawful refl))
 
-pub returns : goal.returns
-returns g c =
+pub returns-in_err-open-clause-none_denied : goal.returns-in_err-open-clause-none_denied
+returns-in_err-open-clause-none_denied g c =
     let b = c.in_ok-book.book in
     absurd
     (never (opening_check b worked_file) (opening_passes b c.in_ok-book.ensures.0)
-    (subst (λ (bs : List ℕ). Opened b bs 7 c.open.new.self (Err c.in-Err.field-0)) c.worked_bytes-bytes.ensures c.in-Err.ensures.opened).0)
+    (subst (λ (bs : List ℕ). Opened b bs 7 c.open.new.self (Err c.in_err-open.field-0.0)) c.worked_bytes.ensures c.in_err-open.ensures.opened).0)
