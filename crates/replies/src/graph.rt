@@ -53,7 +53,8 @@ fn write_nodes<W: fmt::Write>(f: &mut fmt::Formatter<W>, sites: &[Site]) -> fmt:
     Ok(())
 }
 
-// A cluster for each group, that of a single site too, so that the picture says what the group list says.
+// A cluster for each group, that of a single site too, so that the picture says what the group list says. The book tells
+// that list in fixed memory, a number for each place, so it runs beside the sites: a list of groups would want a heap.
 fn write_clusters<W: fmt::Write>(
     f: &mut fmt::Formatter<W>,
     sites: &[Site],
