@@ -41,18 +41,31 @@ pub record Unopened {E : Type 0} (d : Desk E) : Type 0 where
   pub sites : sites_of d.book ≡ []
   pub passes : vec_items d.passes ≡ []
 
--- what a task leaves, by the number of its own first check, what it does and what it keeps: on the network of a file
-abbrev pub OnFile : {A : Type 0} → List ℕ → ℕ → (A → Type 0) → Type 0 → Result A Refusal → Type 0
-OnFile bs check Done Kept r = Answered (or_then (file_answer bs) check) Done Kept r
+-- a task goes by the number of the first check that denies it on these sites and lines with so much room in its list, or 0,
+-- and by what it does to the list and answers
+module _ {X A : Type 0} (check : List Site → List Line → ℕ → ℕ) (done : List Site → List Line → List X → List X → A → Type 0) where
+  -- what it leaves of a network
+  abbrev pub OnNetwork : List Site → List Line → List X → List X → Result A Refusal → Type 0
+  OnNetwork ss ls list list' r = Answered (check ss ls (length list)) (done ss ls list list') (list' ≡ list) r
 
--- .. over one engine, with as much memory as there is
-abbrev pub OverEngine : {A : Type 0} → List ℕ → ℕ → (A → Type 0) → Type 0 → Result A Refusal → Type 0
-OverEngine bs check Done Kept r = OnFile bs check Done Kept r ⊎ ((r ≡ Err NoMemory) × Kept)
+  -- .. of the network of a file, after the checks of the file
+  abbrev pub OnFile : List ℕ → List X → List X → Result A Refusal → Type 0
+  OnFile bs list list' r =
+      Answered (or_then (file_answer bs) (check (sites_in bs) (lines_in bs) (length list))) (done (sites_in bs) (lines_in bs) list list') (list' ≡ list) r
 
--- .. and over the engine of a number
-abbrev pub OverAny : {A : Type 0} → ℕ → List ℕ → ℕ → (A → Type 0) → Type 0 → Result A Refusal → Type 0
-OverAny engine bs check Done Kept r =
-    Answered (or_then (no_engine engine) (or_then (file_answer bs) check)) Done Kept r ⊎ ((r ≡ Err NoMemory) × (engine ≤ 1) × Kept)
+  -- .. over one engine, with as much memory as there is
+  abbrev pub OverEngine : List ℕ → List X → List X → Result A Refusal → Type 0
+  OverEngine bs list list' r = OnFile bs list list' r ⊎ ((r ≡ Err NoMemory) × (list' ≡ list))
+
+  -- .. over the engine of a number
+  abbrev pub OverAny : ℕ → List ℕ → List X → List X → Result A Refusal → Type 0
+  OverAny engine bs list list' r =
+      Answered
+      (or_then (no_engine engine) (or_then (file_answer bs) (check (sites_in bs) (lines_in bs) (length list))))
+      (done (sites_in bs) (lines_in bs) list list')
+      (list' ≡ list)
+      r
+      ⊎ ((r ≡ Err NoMemory) × (engine ≤ 1) × (list' ≡ list))
 
 -- the level of two different places, and 0 of others
 abbrev pub level_or_0 : ℕ → List Line → ℕ → ℕ → ℕ

@@ -6,10 +6,10 @@ ghost use Rattle.capi.specs.Refusals.{number_told};
 use crate::refusal::Refusal;
 
 /// The number of an answer.
-pub fn number_of(answer: Result<(), Refusal>) -> u32
+pub fn number_of<T: Drop>(answer: Result<T, Refusal>) -> u32
     ensures { result ≡ number_told answer }
 {
-    answer.map_or_else(|refusal| refusal.number(), |()| 0)
+    answer.map_or_else(|refusal| refusal.number(), |_| 0)
 }
 
 /// Writes the value of an answer, where there is one, and gives its number.
@@ -21,5 +21,5 @@ pub fn tell(answer: Result<usize, Refusal>, value: &mut usize) -> u32
     if let Ok(found) = answer {
         *value = found;
     }
-    number_of(answer.map(|_| ()))
+    number_of(answer)
 }

@@ -32,7 +32,8 @@ impl Task for Groups {
     }
 }
 
-// Writes the group list so many times, at least once.
+// Writes the group list so many times, at least once. A function of a closure would have to lend the list to each turn, as
+// in `often(turns, list, |list| book.groups(k, list))`, which says no less.
 fn list_often<E>(book: &Book<E>, k: u32, turns: u32, list: &mut [u16]) -> Result<usize, Fault>
     ensures { GroupsListed book.now k list.old list.new result }
 {

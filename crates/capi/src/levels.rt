@@ -1,6 +1,6 @@
 //! The levels of all pairs, from a tree that is built so many times.
 
-ghost use Rattle.std.specs.Prelude.{◌≡◌, ℕ, ◌*◌, ◌<◌, ◌≤◌, List, length};
+ghost use Rattle.std.specs.Prelude.{◌≡◌, ℕ, ◌*◌, ◌/◌, ◌%◌, ◌<◌, ◌≤◌, List, length, slice_index};
 ghost use Rattle.network.specs.declared.line.Line.{Line};
 ghost use Rattle.cuttree.specs.Trees.{Built, TreeOf};
 ghost use Rattle.capi.specs.Calls.{level_or_0, levels_number, LevelsWritten};
@@ -39,7 +39,8 @@ impl Task for Levels {
     }
 }
 
-// Builds the tree so many times, at least once, and answers the last.
+// Builds the tree so many times, at least once, and answers the last. A function `often(turns, || build::<E>(sites, lines))`
+// would serve this loop alone.
 fn build_often<E: Engine>(sites: usize, lines: &[Line], turns: u32) -> Option<Tree>
     ensures { Built sites lines.now result }
 {
@@ -55,8 +56,17 @@ fn write_levels(tree: &Tree, sites: usize, levels: &mut [usize])
     requires room { sites * sites ≤ length levels.old }
     ensures { (ls : List Line) → TreeOf sites ls tree.now → LevelsWritten sites ls levels.old levels.new }
 {
-    for i in 0..sites * sites {
-        levels[i] = level_or_zero(tree, i / sites, i % sites);
+    write_table(tree, sites, &mut levels[..sites * sites]);
+}
+
+// The level of the places x and y, at x sites + y.
+fn write_table(tree: &Tree, sites: usize, table: &mut [usize])
+    requires some { 0 < sites }
+    requires whole { length table.old ≡ sites * sites }
+    ensures { (ls : List Line) → TreeOf sites ls tree.now → (i : ℕ) → i < sites * sites → slice_index table.new i ≡ level_or_0 sites ls (i / sites) (i % sites) }
+{
+    for (i, level) in table.iter_mut().enumerate() {
+        *level = level_or_zero(tree, i / sites, i % sites);
     }
 }
 

@@ -1,13 +1,11 @@
 //! Work on the network of a file, over the engine of a number.
 
-ghost use Rattle.std.specs.Prelude.{◌≡◌, ◌≤◌, ℕ, List, length};
+ghost use Rattle.std.specs.Prelude.{ℕ, List, length};
 ghost use Rattle.network.specs.declared.line.Line.{Line};
 ghost use Rattle.network.specs.declared.site.Site.{Site};
-ghost use Rattle.netfile.specs.Meaning.{sites_in, lines_in};
 ghost use Rattle.book.specs.Calls.{sites_of, lines_of};
 ghost use Rattle.cuttree.specs.Trees.{Lawful};
-ghost use Rattle.capi.specs.Calls.{Idle, Unopened, OnFile, OverEngine, OverAny};
-ghost use Rattle.capi.specs.Refusals.{Answered};
+ghost use Rattle.capi.specs.Calls.{Idle, Unopened, OnNetwork, OnFile, OverEngine, OverAny};
 
 use crate::refusal::Refusal;
 use desk::Desk;
@@ -34,7 +32,7 @@ pub trait Task {
     ) -> Result<Self::Answer, Refusal>
         requires lawful { Lawful (length (sites_of desk.old.book)) (lines_of desk.old.book) }
         requires idle { Idle desk.old 0 }
-        ensures { Answered (check self.now (sites_of desk.old.book) (lines_of desk.old.book) (length list.old)) (done self.now (sites_of desk.old.book) (lines_of desk.old.book) list.old list.new) (list.new ≡ list.old) result };
+        ensures { OnNetwork (check self.now) (done self.now) (sites_of desk.old.book) (lines_of desk.old.book) list.old list.new result };
 }
 
 /// Does the task over the engine of a number.
@@ -45,7 +43,7 @@ pub fn with_engine<T: Task>(
     task: &T,
     list: &mut [T::Entry],
 ) -> Result<T::Answer, Refusal>
-    ensures { OverAny engine bytes.now (T.check task.now (sites_in bytes.now) (lines_in bytes.now) (length list.old)) (T.done task.now (sites_in bytes.now) (lines_in bytes.now) list.old list.new) (list.new ≡ list.old) result }
+    ensures { OverAny (T.check task.now) (T.done task.now) engine bytes.now list.old list.new result }
 {
     match engine {
         0 => with_desk::<ShortestRoute, T>(heap, bytes, task, list),
@@ -61,7 +59,7 @@ fn with_desk<E: Engine, T: Task>(
     task: &T,
     list: &mut [T::Entry],
 ) -> Result<T::Answer, Refusal>
-    ensures { OverEngine bytes.now (T.check task.now (sites_in bytes.now) (lines_in bytes.now) (length list.old)) (T.done task.now (sites_in bytes.now) (lines_in bytes.now) list.old list.new) (list.new ≡ list.old) result }
+    ensures { OverEngine (T.check task.now) (T.done task.now) bytes.now list.old list.new result }
 {
     let mut desk = Desk::<E>::new(heap)?;
     let answer = on_file(&mut desk, bytes, task, list);
@@ -77,7 +75,7 @@ fn on_file<E: Engine, T: Task>(
     list: &mut [T::Entry],
 ) -> Result<T::Answer, Refusal>
     requires { Unopened desk.old }
-    ensures { OnFile bytes.now (T.check task.now (sites_in bytes.now) (lines_in bytes.now) (length list.old)) (T.done task.now (sites_in bytes.now) (lines_in bytes.now) list.old list.new) (list.new ≡ list.old) result }
+    ensures { OnFile (T.check task.now) (T.done task.now) bytes.now list.old list.new result }
 {
     desk.open(bytes, 0)?;
     task.run(desk, list)

@@ -1,13 +1,17 @@
-use Rattle.std.proofs.Common.{◌<◌, ◌≢◌, length, arith, get_or-set_other, get_or-set_same, below_more}
+use Rattle.std.proofs.Common.{◌≡◌, ◌+◌, ◌-◌, ◌*◌, length, drop, get_or, ap, ◌∙◌, arith, rules}
+use Rattle.std.proofs.lemmas.List.{get_or_append_left, get_or-append_right, get_or-drop}
 use Rattle.capi.proofs.levels.write_levels.Goals as goal
 
-pub loop-i-preserved : goal.loop-i-preserved
-loop-i-preserved c = (
-  λ ls of. below_more _ _
-      (λ k h. let ne : k ≢ c.loop-i.i = omega arith in rw get_or-set_other (c.loop-i.invariant.0 ls of k h))
-      (let lt : c.loop-i.i < length c.loop-i.levels = omega arith in rw get_or-set_same (c.level_or_zero.ensures c.args.sites ls of)),
-  λ k h. let ne : k ≢ c.loop-i.i = omega arith in rw get_or-set_other (c.loop-i.invariant.1 k (omega arith)),
-)
-
 pub returns : goal.returns
-returns c = λ ls of. record { each = λ i lt. c.loop-i.invariant.0 ls of i (omega arith); rest = λ i le. c.loop-i.invariant.1 i (omega arith) }
+returns c =
+    λ ls of.
+    let m = c.args.sites * c.args.sites in
+    let table = c.write_table.new.table in
+    let list = c.args.levels.now in
+    let size : length table ≡ m = search rules in
+    record {
+      each = λ i lt. get_or_append_left table (drop m list) 0 i (omega (arith, size, lt)) ∙ c.write_table.ensures ls of i lt;
+      rest = λ i le.
+          let at : m + (i - m) ≡ i = omega (arith, le) in
+          get_or-append_right table (drop m list) m i 0 size le ∙ get_or-drop m list (i - m) 0 ∙ ap (λ k. get_or list k 0) at;
+    }
