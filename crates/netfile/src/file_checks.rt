@@ -1,4 +1,4 @@
-ghost use Rattle.std.specs.Prelude.{◌≡◌, ◌/◌, ◌≤◌, length, take, IfOk, OnOk};
+ghost use Rattle.std.specs.Prelude.{◌≡◌, ◌/◌, length, take, IfOk};
 ghost use Rattle.netfile.specs.Headers.{header_in};
 ghost use Rattle.netfile.specs.Layout.{IsRecordSize, records_from};
 ghost use Rattle.netfile.specs.Search.{or_else};
