@@ -83,7 +83,7 @@ pub fn take_routes(marking: &Marking<'_>, k: usize, list: &mut [u16]) -> Option<
     ensures { Taken marking.now.sites marking.now.lines.now marking.now.marks.now marking.now.a marking.now.b marking.now.value k list.old list.new result }
 {
     let net = marking.fit_network(k)?;
-    // .. and the store that of the most numbers
+    // nothing is allocated here either, so that the store has the room of the most numbers
     let mut store = [0; MOST_NUMBERS];
     let top = choose(&net, marking, k, &mut store);
     put(&store[top..], list)
