@@ -5,7 +5,7 @@ use Rattle.network.specs.declared.line.Line.{Line}
 use Rattle.network.specs.Cuts.{level_of}
 use Rattle.network.specs.Answers.{PartedBy}
 use Rattle.book.specs.declared.held.Book.{Book}
-use Rattle.book.specs.declared.pair.Pair.{Pair}
+use Rattle.network.specs.declared.pair.Pair.{Pair}
 use Rattle.book.specs.Grounds.{Ground}
 use Rattle.book.specs.Calls.{sites_of, lines_of, rows_of, size_of, sites_check, book_level, SideOf}
 use Rattle.book.specs.Plans.{TwoPlaces, Placed}

@@ -7,7 +7,7 @@ use Rattle.network.specs.Answers.{PartedBy}
 use Rattle.book.specs.declared.fault.Fault.{Fault}
 use Rattle.book.specs.declared.fault.Fault.TheVariants.{TooFewRoutes}
 use Rattle.book.specs.declared.held.Book.{Book}
-use Rattle.book.specs.declared.pair.Pair.{Pair}
+use Rattle.network.specs.declared.pair.Pair.{Pair}
 use Rattle.book.specs.declared.tables.Stretch.{Stretch}
 use Rattle.book.specs.declared.ticket.Ticket.{Ticket}
 use Rattle.book.specs.Grounds.{Ground, ground_of, no_booking}

@@ -3,7 +3,6 @@
 mod fault;
 mod held;
 mod listing;
-mod pair;
 mod standing;
 mod tables;
 mod ticket;

@@ -11,7 +11,7 @@ use Rattle.cuttree.specs.Trees.{Lawful}
 pub lawful_file : (bs : List ℕ) → first_fault bs ≡ None → Lawful (length (sites_in bs)) (lines_in bs)
 lawful_file bs sound =
     let h = holds bs sound in
-    record { some_site = h.some_site; few_sites = h.few_sites; few_lines = h.few_lines; all_join = h.joined }
+    record { some_site = h.some_site; fits = record { few_sites = h.few_sites; few_lines = h.few_lines; joined = h.joined } }
 
 -- no check applies after one that does not
 passed : (t : Bool) (f : Option NetworkFault) → check t already_open (file_check f) ≡ None → f ≡ None

@@ -1,5 +1,5 @@
 -- What the worked calls come to.
-use Rattle.std.specs.Prelude.{◌≡◌, ℕ, ◌≢◌, List, slice_index}
+use Rattle.std.specs.Prelude.{◌≡◌, ℕ, true, ◌≢◌, List, slice_index}
 use Rattle.network.specs.declared.line.LineState.TheVariants.{Free}
 use Rattle.network.specs.Answers.{PartedBy}
 use Rattle.cases.specs.declared.outcome.Outcome.{Outcome}
@@ -18,4 +18,6 @@ pub record OnlyPair (es : List ℕ) : Type 0 where
 
 pub record Happened (o : Outcome) : Type 0 where
   pub entries : OnlyPair o.entries
+  -- the booking still stood
+  pub released : o.released ≡ true
   pub four_denied : FourDenied o.four_denied

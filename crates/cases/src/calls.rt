@@ -57,6 +57,7 @@ fn with_three<E: Engine>(book: &mut Book<E>, ticket: Ticket) -> Result<Outcome, 
             listed?;
             Ok(Outcome {
                 entries,
+                released: true,
                 four_denied,
             })
         }

@@ -9,6 +9,8 @@ use std::alloc::AllocError;
 pub struct Outcome {
     /// The group list at level 1 while the three routes were booked.
     pub entries: [u16; 4],
+    /// Whether the booking of the three still stood at its release.
+    pub released: bool,
     /// The level and the side that came with the denial of four routes.
     pub four_denied: (usize, u64),
 }

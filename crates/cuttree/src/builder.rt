@@ -10,7 +10,7 @@ ghost use Rattle.cuttree.specs.Trees.{two_places, Built, TreeOf};
 
 use crate::pending::Pending;
 use crate::tree::{Node, Tree};
-use network::{Engine, Flow, Line, MOST_LINES, MOST_SITES, Network, side};
+use network::{Engine, Flow, Line, MOST_LINES, MOST_SITES, Network, Pair, side};
 
 impl Tree {
     /// The tree of no sites.
@@ -68,6 +68,10 @@ fn flow_to<E: Engine>(net: &Network<'_>, pending: Pending, t: usize) -> Flow
     ensures level { result.value ≡ level_of net.now.sites net.now.lines.now pending.source t }
     ensures parted { PartedBy net.now.sites net.now.lines.now pending.source t result.value result.side }
 {
-    let mut marks = [0; MOST_LINES];
-    network::ask::<E>(net, pending.source(), t, &mut marks).unwrap()
+    let pair = Pair {
+        net: *net,
+        a: pending.source(),
+        b: t,
+    };
+    pair.flow::<E>(&mut [0; MOST_LINES])
 }

@@ -6,7 +6,7 @@ use Rattle.std.proofs.lemmas.Bool.Decides.{nat_tests}
 use Rattle.network.specs.declared.line.Line.{Line}
 use Rattle.network.specs.declared.engine.SiteWork.{SiteWork}
 use Rattle.network.specs.declared.engine.Flow.{Flow}
-use Rattle.engines.specs.declared.task.Question.{Question}
+use Rattle.network.specs.declared.pair.Pair.{Pair}
 use Rattle.network.specs.Lines.{line_at, Joins, AllJoin}
 use Rattle.network.specs.Sides.{member}
 use Rattle.network.specs.Cuts.{crosses, crossing_by}
@@ -75,7 +75,7 @@ pub none_marked : (ls : List Line) (ms : List ℕ) → ((k : ℕ) → mark_at ms
 none_marked ls ms dark k _ = (omega (arith, dark k), λ _. dark k)
 
 -- a search that is stuck answers: the side of the places that it has seen
-pub answered : (q : Question) (ms₀ ms : List ℕ) (ws : List SiteWork) (v side : ℕ) → InHand q.net ms ws → length ms₀ ≡ length q.net.lines.now →
+pub answered : (q : Pair) (ms₀ ms : List ℕ) (ws : List SiteWork) (v side : ℕ) → InHand q.net ms ws → length ms₀ ≡ length q.net.lines.now →
     AllMarked q.net.lines.now ms → Balanced q.net.lines.now ms q.a q.b v → Stuck q.net.lines.now ms ws q.a q.b →
     side < 2 ^ length ws → ((p : ℕ) → p < length ws → member side p ≡ not (eqb (seen_at ws p) 0)) →
     Flows q.net.sites q.net.lines.now q.a q.b ms₀ ms v side
@@ -118,7 +118,7 @@ answered q ms₀ ms ws v side h sized₀ marked bal stuck low places =
     dark = is_dark (member side q.b) (seen_at ws q.b) (places q.b (omega (arith, h.kept, q.b_within))) stuck.dark
 
 -- an answer over the front of the marks, just as many as there are lines, is one over all of them
-pub widened : (q : Question) (n : ℕ) (ls : List Line) (a b : ℕ) (ms front after : List ℕ) (ws ws' : List SiteWork) (f : Flow) →
+pub widened : (q : Pair) (n : ℕ) (ls : List Line) (a b : ℕ) (ms front after : List ℕ) (ws ws' : List SiteWork) (f : Flow) →
     Task n ls a b ms ws → length after ≡ length ls → (q.net.sites ≡ n) × (q.net.lines.now ≡ ls) × (q.a ≡ a) × (q.b ≡ b) →
     Flows q.net.sites q.net.lines.now q.a q.b front after f.value f.side → Answer n ls a b ms (after ++ drop (length ls) ms) ws ws' (Some f)
 widened q n ls a b ms front after ws ws' f task size is flows = (task, whole)

@@ -6,8 +6,8 @@ ghost use Rattle.engines.specs.Heights.{height_at, surplus_at, moved, raised, Lo
 
 use crate::residual::{Way, clear_marks};
 use crate::search::{clear_work, search, side_seen};
-use crate::task::{Method, Question, answer};
-use network::{Engine, Flow, Line, Network, SiteWork};
+use crate::task::{Method, answer};
+use network::{Engine, Flow, Line, Network, Pair, SiteWork};
 
 // Takes one unit of surplus from p to q.
 fn move_surplus(work: &mut [SiteWork], p: usize, q: usize)
@@ -116,40 +116,40 @@ fn step(net: &Network<'_>, marks: &mut [u8], work: &mut [SiteWork], p: usize)
 }
 
 // Steps until all surplus is back at a or has come to b.
-fn drain(question: &Question<'_>, marks: &mut [u8], work: &mut [SiteWork])
-    requires in_hand { InHand question.now.net marks.old work.old }
-    requires begun { Preflow question.now.net.lines.now marks.old work.old question.now.a question.now.b }
-    ensures ended { Preflow question.now.net.lines.now marks.new work.new question.now.a question.now.b }
-    ensures settled { Settled work.new question.now.a question.now.b }
+fn drain(pair: &Pair<'_>, marks: &mut [u8], work: &mut [SiteWork])
+    requires in_hand { InHand pair.now.net marks.old work.old }
+    requires begun { Preflow pair.now.net.lines.now marks.old work.old pair.now.a pair.now.b }
+    ensures ended { Preflow pair.now.net.lines.now marks.new work.new pair.now.a pair.now.b }
+    ensures settled { Settled work.new pair.now.a pair.now.b }
 {
-    'steps: while let Some(p) = find_active(work, question.a, question.b) {
-        step(&question.net, marks, work, p);
+    'steps: while let Some(p) = find_active(work, pair.a, pair.b) {
+        step(&pair.net, marks, work, p);
     }
 }
 
 // The table before the first push: all places at height 0 and with no surplus, but for a, which is as high as there are
 // places, and has as many units as there are lines.
-fn prepare(question: &Question<'_>, work: &mut [SiteWork])
-    requires { length work.old ≡ question.now.net.sites }
-    ensures { Fresh work.new question.now.a (length question.now.net.lines.now) }
+fn prepare(pair: &Pair<'_>, work: &mut [SiteWork])
+    requires { length work.old ≡ pair.now.net.sites }
+    ensures { Fresh work.new pair.now.a (length pair.now.net.lines.now) }
 {
     clear_work(work);
-    work[question.a] = SiteWork {
-        height: question.net.sites as u16,
-        surplus: question.net.lines.len() as u16,
+    work[pair.a] = SiteWork {
+        height: pair.net.sites as u16,
+        surplus: pair.net.lines.len() as u16,
         ..SiteWork::default()
     };
 }
 
 // Sends away from a what the lines at a take.
-fn saturate(question: &Question<'_>, marks: &mut [u8], work: &mut [SiteWork])
-    requires in_hand { InHand question.now.net marks.old work.old }
-    requires begun { Opening question.now.net.lines.now marks.old work.old question.now.a 0 }
-    ensures { Opening question.now.net.lines.now marks.new work.new question.now.a (length question.now.net.lines.now) }
+fn saturate(pair: &Pair<'_>, marks: &mut [u8], work: &mut [SiteWork])
+    requires in_hand { InHand pair.now.net marks.old work.old }
+    requires begun { Opening pair.now.net.lines.now marks.old work.old pair.now.a 0 }
+    ensures { Opening pair.now.net.lines.now marks.new work.new pair.now.a (length pair.now.net.lines.now) }
 {
-    for (k, line) in question.net.lines.iter().enumerate() {
-        let way = Way::over(k, line.first as usize == question.a);
-        let _ = try_send(&question.net, marks, work, question.a, way);
+    for (k, line) in pair.net.lines.iter().enumerate() {
+        let way = Way::over(k, line.first as usize == pair.a);
+        let _ = try_send(&pair.net, marks, work, pair.a, way);
     }
 }
 
@@ -158,14 +158,14 @@ pub struct Push {}
 
 impl Method for Push {
     // Sends from a all that its lines take, and moves the surplus on until it has come to b or is back at a.
-    fn run(question: &Question<'_>, marks: &mut [u8], work: &mut [SiteWork]) -> Flow {
+    fn run(pair: &Pair<'_>, marks: &mut [u8], work: &mut [SiteWork]) -> Flow {
         clear_marks(marks);
-        prepare(question, work);
-        saturate(question, marks, work);
-        drain(question, marks, work);
-        let value = work[question.b].surplus as usize;
+        prepare(pair, work);
+        saturate(pair, marks, work);
+        drain(pair, marks, work);
+        let value = work[pair.b].surplus as usize;
         // Some height between b's and a's has no place, and no arc leads down past it: the search never reaches b.
-        let _ = search(question, marks, work);
+        let _ = search(pair, marks, work);
         Flow {
             value,
             side: side_seen(work),

@@ -8,9 +8,8 @@ ghost use Rattle.engines.specs.Hands.{InHand};
 ghost use Rattle.engines.specs.Search.{no_site, site_at, seen_at, noted, reaches, adds_up, seen_after, Scanned, Round, Found, Stuck};
 
 use crate::residual::Way;
-use crate::task::Question;
 use network::side::insert;
-use network::{Line, Network, SiteWork};
+use network::{Line, Network, Pair, SiteWork};
 
 fn note_seen(work: &mut [SiteWork], q: usize, by: u16, layer: u16)
     requires { q < length work.old }
@@ -87,14 +86,14 @@ fn start_search(work: &mut [SiteWork], a: usize)
 
 // Looks for a way from a to b over lines that can still carry, layer by layer. Where there is none, the places seen
 // are all that can be reached from a.
-pub fn search(question: &Question<'_>, marks: &[u8], work: &mut [SiteWork]) -> bool
-    requires { InHand question.now.net marks.now work.old }
-    ensures { MatchBool result (Found question.now.net.lines.now marks.now work.new question.now.a question.now.b) (Stuck question.now.net.lines.now marks.now work.new question.now.a question.now.b) }
+pub fn search(pair: &Pair<'_>, marks: &[u8], work: &mut [SiteWork]) -> bool
+    requires { InHand pair.now.net marks.now work.old }
+    ensures { MatchBool result (Found pair.now.net.lines.now marks.now work.new pair.now.a pair.now.b) (Stuck pair.now.net.lines.now marks.now work.new pair.now.a pair.now.b) }
 {
-    start_search(work, question.a);
+    start_search(work, pair.a);
     let mut layer = 1;
-    'rounds: while scan_round(&question.net, marks, work, layer) {
-        if work[question.b].seen != 0 {
+    'rounds: while scan_round(&pair.net, marks, work, layer) {
+        if work[pair.b].seen != 0 {
             return true;
         }
         layer += 1;

@@ -9,8 +9,8 @@ ghost use Rattle.engines.specs.Search.{parent_at, way_in, Found};
 
 use crate::residual::{Way, clear_marks};
 use crate::search::{search, side_seen};
-use crate::task::{Method, Question, answer};
-use network::{Engine, Flow, Line, Network, SiteWork};
+use crate::task::{Method, answer};
+use network::{Engine, Flow, Line, Network, Pair, SiteWork};
 
 // Sends one unit to c over the line by which c was seen, and answers the place that this line comes from.
 fn step_back(net: &Network<'_>, marks: &mut [u8], work: &[SiteWork], c: usize) -> usize
@@ -27,17 +27,17 @@ fn step_back(net: &Network<'_>, marks: &mut [u8], work: &[SiteWork], c: usize) -
 }
 
 // Sends one unit from a to b, over the lines by which the search came to b.
-fn augment(question: &Question<'_>, marks: &mut [u8], work: &[SiteWork])
-    requires in_hand { InHand question.now.net marks.old work.now }
-    requires sound { AllMarked question.now.net.lines.now marks.old }
-    requires reached { Found question.now.net.lines.now marks.old work.now question.now.a question.now.b }
-    ensures sound { AllMarked question.now.net.lines.now marks.new }
-    ensures sent { Sent question.now.net.lines.now marks.old marks.new question.now.a question.now.b }
+fn augment(pair: &Pair<'_>, marks: &mut [u8], work: &[SiteWork])
+    requires in_hand { InHand pair.now.net marks.old work.now }
+    requires sound { AllMarked pair.now.net.lines.now marks.old }
+    requires reached { Found pair.now.net.lines.now marks.old work.now pair.now.a pair.now.b }
+    ensures sound { AllMarked pair.now.net.lines.now marks.new }
+    ensures sent { Sent pair.now.net.lines.now marks.old marks.new pair.now.a pair.now.b }
 {
     // Each step needs the marks, and its line is found only at the place that the one before came to: no iterator walks so.
-    let mut c = question.b;
-    'back: while c != question.a {
-        c = step_back(&question.net, marks, work, c);
+    let mut c = pair.b;
+    'back: while c != pair.a {
+        c = step_back(&pair.net, marks, work, c);
     }
 }
 
@@ -46,11 +46,11 @@ pub struct ShortestRoute {}
 
 impl Method for ShortestRoute {
     // Sends units from a to b, one at a time, until no further route is left.
-    fn run(question: &Question<'_>, marks: &mut [u8], work: &mut [SiteWork]) -> Flow {
+    fn run(pair: &Pair<'_>, marks: &mut [u8], work: &mut [SiteWork]) -> Flow {
         clear_marks(marks);
         let mut value = 0;
-        'units: while search(question, marks, work) {
-            augment(question, marks, work);
+        'units: while search(pair, marks, work) {
+            augment(pair, marks, work);
             value += 1;
         }
         Flow {

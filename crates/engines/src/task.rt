@@ -4,20 +4,9 @@ ghost use Rattle.std.specs.Prelude.{◌≡◌, ◌<◌, ◌≢◌, IfSome, IfNon
 ghost use Rattle.network.specs.Answers.{Task, Flows, Answer};
 ghost use Rattle.engines.specs.Hands.{InHand};
 
-use network::{Flow, Line, Network, SiteWork};
+use network::{Flow, Line, Network, Pair, SiteWork};
 
-/// What an engine is asked: the flow from place `a` of a network to another place `b`.
-#[derive(Clone, Copy)]
-pub struct Question<'a> {
-    pub net: Network<'a>,
-    pub a: usize,
-    pub b: usize,
-    ghost apart: { a ≢ b },
-    ghost a_within: { a < net.sites },
-    ghost b_within: { b < net.sites },
-}
-
-// The question of a call that an engine takes; it declines every other.
+// The pair of places of a call that an engine takes; it declines every other.
 fn taken<'a>(
     sites: usize,
     lines: &'a [Line],
@@ -25,25 +14,25 @@ fn taken<'a>(
     b: usize,
     marks: &[u8],
     work: &[SiteWork],
-) -> Option<Question<'a>>
+) -> Option<Pair<'a>>
     ensures taken { IfSome result (λ q. Task sites lines.now a b marks.now work.now) }
     ensures asked { IfSome result (λ q. (q.net.sites ≡ sites) × (q.net.lines.now ≡ lines.now) × (q.a ≡ a) × (q.b ≡ b)) }
     ensures declined { IfNone result (Task sites lines.now a b marks.now work.now → ⊥) }
 {
     let net = Network::new(sites, lines)?;
     if a != b && a < sites && b < sites && lines.len() <= marks.len() && sites <= work.len() {
-        Some(Question { net, a, b })
+        Some(Pair { net, a, b })
     } else {
         None
     }
 }
 
-// How an engine works on a question, with as many marks as there are lines and a record for each site. Marks and records
+// How an engine works on a pair of places, with as many marks as there are lines and a record for each site. Marks and records
 // stay two slices: a struct of two `&mut` would add to each contract that it keeps both.
 pub trait Method {
-    fn run(question: &Question<'_>, marks: &mut [u8], work: &mut [SiteWork]) -> Flow
-        requires in_hand { InHand question.now.net marks.old work.old }
-        ensures { Flows question.now.net.sites question.now.net.lines.now question.now.a question.now.b marks.old marks.new result.value result.side };
+    fn run(pair: &Pair<'_>, marks: &mut [u8], work: &mut [SiteWork]) -> Flow
+        requires in_hand { InHand pair.now.net marks.old work.old }
+        ensures { Flows pair.now.net.sites pair.now.net.lines.now pair.now.a pair.now.b marks.old marks.new result.value result.side };
 }
 
 // Answers a call by the method, or declines it.
@@ -57,6 +46,6 @@ pub fn answer<M: Method>(
 ) -> Option<Flow>
     ensures { Answer sites lines.now a b marks.old marks.new work.old work.new result }
 {
-    let question = taken(sites, lines, a, b, marks, work)?;
-    Some(M::run(&question, &mut marks[..lines.len()], &mut work[..sites]))
+    let pair = taken(sites, lines, a, b, marks, work)?;
+    Some(M::run(&pair, &mut marks[..lines.len()], &mut work[..sites]))
 }

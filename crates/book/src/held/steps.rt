@@ -7,13 +7,12 @@ ghost use Rattle.book.specs.Plans.{StandsAt, Placed, Chosen, Prepared};
 use super::Book;
 use crate::fault::Fault;
 use crate::listing::MOST_LISTED;
-use crate::pair::Pair;
 use crate::standing::Standing;
 use crate::tables::{Stretch, find_row, hold, lay, name_places, tell};
 use crate::ticket::Ticket;
 use crate::tree::tree_of;
 use netfile::{NetworkFile, find};
-use network::{Engine, MOST_LINES, Network};
+use network::{Engine, MOST_LINES, Network, Pair};
 use routes::{Marking, take_routes};
 
 /// How many bookings a book accepts.

@@ -19,4 +19,4 @@ returns-in_err-listed-in-Ok g c =
 pub returns : goal.returns
 returns g c =
     let l = groups_then c.args.book.now c.args.ticket (0 ∷ 0 ∷ 0 ∷ 0 ∷ []) c.groups-listed.new.list c.groups-listed.result c.requires refl c.groups-listed.ensures.lawful in
-    record { entries = l.1; four_denied = c.once_returned-four_denied.ensures }
+    record { entries = l.1; released = refl; four_denied = c.once_returned-four_denied.ensures }

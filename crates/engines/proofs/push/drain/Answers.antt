@@ -6,14 +6,14 @@ use Rattle.engines.proofs.push.drain.Goals.{After-step}
 
 pub step-requires-clause-loaded : goal.step-requires-clause-loaded
 step-requires-clause-loaded c =
-    loaded c.args.question.now.net c.steps.marks c.steps.work c.args.question.now.a c.args.question.now.b c.in-Some.p
+    loaded c.args.pair.now.net c.steps.marks c.steps.work c.args.pair.now.a c.args.pair.now.b c.in-Some.p
     (record { marked = omega arith; kept = omega arith }) c.steps.invariant c.in-Some.ensures.active.3
 
 stepped : (c : After-step) →
-    Preflow c.args.question.now.net.lines.now c.step.new.marks c.step.new.work c.args.question.now.a c.args.question.now.b
+    Preflow c.args.pair.now.net.lines.now c.step.new.marks c.step.new.work c.args.pair.now.a c.args.pair.now.b
     × (left (length c.steps.work) c.step.new.work < left (length c.steps.work) c.steps.work)
 stepped c =
-    let q = c.args.question.now in
+    let q = c.args.pair.now in
     let at = c.in-Some.ensures.active in
     c.step.ensures q.a q.b (omega (arith, q.a_within)) at.1 at.2 c.steps.invariant
 

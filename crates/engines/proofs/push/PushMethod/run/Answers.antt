@@ -9,17 +9,17 @@ use Rattle.engines.proofs.push.PushMethod.run.Goals as goal
 
 pub saturate-requires-clause-begun : goal.saturate-requires-clause-begun
 saturate-requires-clause-begun c =
-    let q = c.args.question.now in
+    let q = c.args.pair.now in
     opening_none q.net.lines.now c.clear_marks.new.marks c.prepare.new.work q.a (all_unused c.clear_marks.new.marks c.clear_marks.ensures) c.prepare.ensures
 
 pub drain-requires-clause-begun : goal.drain-requires-clause-begun
 drain-requires-clause-begun c =
-    let q = c.args.question.now in
+    let q = c.args.pair.now in
     opening_all q.net.lines.now c.saturate.new.marks c.saturate.new.work q.a q.b q.apart c.saturate.ensures
 
 pub returns : goal.returns
 returns c =
-    let q = c.args.question.now in
+    let q = c.args.pair.now in
     let ls = q.net.lines.now in
     let ms = c.drain.new.marks in
     let ws = c.drain.new.work in
