@@ -63,11 +63,8 @@ fn hand_over<E: Engine>(
         Ok(()) => Ok(Ok(())),
         Err(denied) => {
             let Denied { fault, ticket } = denied;
-            match own.release(ticket) {
-                Ok(()) => {}
-                // A book does not deny the release of its own ticket, so this arm cannot be.
-                Err(_denied) => unreachable!(),
-            }
+            // A book does not deny the release of its own ticket.
+            own.release(ticket).unwrap();
             Ok(Err(fault))
         }
     }
