@@ -3,7 +3,6 @@ pub mod Rooting
 pub mod Splitting
 pub mod Growing
 pub mod Hanging
-pub mod Pairs
 pub mod Sizes
 pub mod Joining
 pub mod Building

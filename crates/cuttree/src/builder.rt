@@ -66,7 +66,6 @@ fn grow<E: Engine>(
 fn flow_to<E: Engine>(net: &Network<'_>, pending: Pending, t: usize) -> Flow
     requires two { two_places net.now.sites pending.source t ≡ true }
     ensures level { result.value ≡ level_of net.now.sites net.now.lines.now pending.source t }
-    ensures few { result.value ≤ 512 }
     ensures parted { PartedBy net.now.sites net.now.lines.now pending.source t result.value result.side }
 {
     let mut marks = [0; MOST_LINES];

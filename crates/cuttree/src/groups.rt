@@ -12,6 +12,7 @@ impl Tree {
         ensures told { GroupsTold self.now k list.old list.new result }
         ensures network { GroupsOf self.now k list.new result }
     {
+        // after `list.get_mut(..self.sites)?` no element of the list would be known
         if list.len() < self.sites {
             return None;
         }

@@ -3,17 +3,13 @@ use Rattle.std.proofs.Common.{◌≡◌, ℕ, ◌<◌, ◌≤◌, true, not, eqb
 use Rattle.std.proofs.lemmas.Bool.{cases_lt, cases_Bool, both_ways}
 use Rattle.std.proofs.lemmas.List.{length-take, length-drop, take-append-drop, get_or-take, get_or_past}
 use Rattle.network.specs.declared.line.Line.{Line}
-use Rattle.network.specs.Lines.{AllJoin}
 use Rattle.network.specs.Routes.{free_at}
 use Rattle.network.specs.Flow.{mark_at, outs, ins, Balanced, AllMarked}
 use Rattle.network.proofs.Sums.{outs_front, ins_front}
 use Rattle.routes.specs.Taking.{Fit, carrying, listed, Chosen, Taken}
-use Rattle.routes.specs.Walks.{NoLoops, picked}
+use Rattle.routes.specs.Walks.{picked}
 use Rattle.routes.specs.Draws.{Drawn}
 use Rattle.routes.proofs.Drawing.{all_weaker, picked_was}
-
-pub no_loops : (n : ℕ) (ls : List Line) → AllJoin n ls → NoLoops ls
-no_loops n ls h p l = (h p l).2
 
 -- the marks of the lines are as good as all marks
 module _ (ls : List Line) (ms : List ℕ) (m : ℕ) (same : m ≡ length ls) (room : length ls ≤ length ms) where

@@ -1,8 +1,7 @@
 -- The walk that takes one route out of the marks. It goes against the direction of the lines, from b back to a, so
 -- that a route grows at its front.
-use Rattle.std.specs.Prelude.{◌≡◌, ℕ, suc, ◌+◌, ◌-◌, ◌<◌, ◌≤◌, Bool, true, cond, not, ◌&&◌, List, ◌∷◌, length, drop, ◌==◌, ◌≢◌, nat_eq}
+use Rattle.std.specs.Prelude.{◌≡◌, ℕ, suc, ◌+◌, ◌-◌, ◌≤◌, Bool, true, cond, not, ◌&&◌, List, ◌∷◌, length, drop, ◌==◌, nat_eq}
 use Rattle.network.specs.declared.line.Line.{Line}
-use Rattle.network.specs.Lines.{line_at}
 use Rattle.network.specs.Lists.{distinct, every}
 use Rattle.network.specs.Routes.{chained, stops, end_of}
 use Rattle.network.specs.Flow.{sum_marked, one, outs, ins, Balanced}
@@ -15,10 +14,6 @@ source_of l m = cond (m == 1) l.first l.second
 -- how many lines carry
 unfoldable pub carriers : List Line → List ℕ → ℕ
 carriers ls ms = sum_marked (λ l m. one (not (m == 0))) ls ms
-
--- no line joins a place with itself
-abbrev pub NoLoops : List Line → Type 0
-NoLoops ls = (p : ℕ) → p < length ls → (line_at ls p).first ≢ (line_at ls p).second
 
 -- a chain from x to b that passes no place twice and whose lines all pass the test
 pub record Way (ls : List Line) (Q : ℕ → Bool) (x b : ℕ) (r : List ℕ) : Type 0 where

@@ -13,7 +13,7 @@ pub enum End {
     To,
 }
 
-/// Whether the line carries, with this end at the place.
+/// Whether the line carries, with this end at the place. The marks are lent as bytes, so that one may be any number.
 pub fn carries_at(end: End, line: &Line, mark: u8, place: usize) -> bool
     ensures { result ≡ (counts_at end (nat_eq place) line.now mark == 1) }
 {

@@ -42,7 +42,7 @@ fn draw(
 {
     let mut top = store.len();
     for _done in 0..k {
-        let start = walk(net, left, a, b, &mut store[0..top]);
+        let start = walk(net, left, a, b, &mut store[..top]);
         top = put_count(store, start, top);
     }
     top
@@ -55,9 +55,10 @@ fn choose(net: &Network<'_>, marking: &Marking<'_>, k: usize, store: &mut [u16])
     ensures within { result ≤ length store.new }
     ensures chosen { (rs : List (List ℕ)) × Chosen net.now.lines.now marking.now.marks.now marking.now.a marking.now.b k rs × (drop result store.new ≡ listed rs) }
 {
+    // routes are taken without allocation, so that the copy has the room of the most lines
     let mut room = [0; MOST_LINES];
-    let left = &mut room[0..net.lines.len()];
-    left.copy_from_slice(&marking.marks[0..net.lines.len()]);
+    let left = &mut room[..net.lines.len()];
+    left.copy_from_slice(&marking.marks[..net.lines.len()]);
     draw(net, left, marking.a, marking.b, k, store)
 }
 
@@ -67,10 +68,11 @@ fn put(numbers: &[u16], list: &mut [u16]) -> Option<usize>
         (λ w. (w ≡ length numbers.now) × (list.new ≡ numbers.now ++ drop w list.old)) }
 {
     let count = numbers.len();
+    // after `list.get_mut(..count)?` no element of the list would be known
     if list.len() < count {
         return None;
     }
-    list[0..count].copy_from_slice(numbers);
+    list[..count].copy_from_slice(numbers);
     Some(count)
 }
 
@@ -81,6 +83,7 @@ pub fn take_routes(marking: &Marking<'_>, k: usize, list: &mut [u16]) -> Option<
     ensures { Taken marking.now.sites marking.now.lines.now marking.now.marks.now marking.now.a marking.now.b marking.now.value k list.old list.new result }
 {
     let net = marking.fit_network(k)?;
+    // nothing is allocated here either, so that the store has the room of the most numbers
     let mut store = [0; MOST_NUMBERS];
     let top = choose(&net, marking, k, &mut store);
     put(&store[top..], list)

@@ -75,7 +75,8 @@ fn take_out(left: &mut [u8], line: usize)
     left[line] = 0;
 }
 
-/// Takes one route from `a` to `b` out of the lines that still carry. It stands in `path` from the answered place on.
+/// Takes one route from `a` to `b` out of the lines that still carry. It stands in `path` from the answered place on: the
+/// path is lent, since no route is allocated, and fills from its end.
 pub fn walk(net: &Network<'_>, left: &mut [u8], a: usize, b: usize, path: &mut [u16]) -> usize
     requires room { length net.now.lines.now ≤ length left.old }
     requires space { carriers net.now.lines.now left.old ≤ length path.old }

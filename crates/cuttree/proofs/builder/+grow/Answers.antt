@@ -1,5 +1,6 @@
 use Rattle.std.proofs.Common.{◌≡◌, ◌+◌, ◌<◌, ◌∷◌, length, sym, ap, arith, length-set, rules}
 use Rattle.network.specs.Sides.{size_below}
+use Rattle.network.proofs.Levels.{level_le_length}
 use Rattle.cuttree.specs.Splits.{part}
 use Rattle.cuttree.proofs.Sizes.{size_one}
 use Rattle.cuttree.proofs.Joining.{stands_done, stands_split, near_within, far_within, halves}
@@ -14,6 +15,11 @@ returns-in_default g t c =
       count = ap (◌+◌ c.args.joined) (sym (size_one net.sites p.available p.source (c.requires.within p.source p.held) p.held alone));
       joins = λ ps. stands_done net.sites net.lines.now (part p.available p.source) ps c.args.joined c.args.nodes.now alone;
     }
+
+pub joined-requires-clause-light : goal.joined-requires-clause-light
+joined-requires-clause-light g t c =
+    let net = c.args.net.now in
+    omega (arith, c.flow_to-flow.ensures.level, net.few_lines, level_le_length net.sites net.lines.now c.args.pending.source c.in-Some.t)
 
 pub grow-inside-requires : goal.grow-inside-requires
 grow-inside-requires g t c κs within =

@@ -1,6 +1,5 @@
-use Rattle.std.proofs.Common.{◌≡◌, ◌-◌, ◌<◌, ◌≤◌, [], ◌∷◌, length, drop, ◌∙◌, subst, arith}
+use Rattle.std.proofs.Common.{◌≡◌, ◌-◌, ◌<◌, ◌≤◌, [], ◌∷◌, length, drop, refl, ◌∙◌, arith}
 use Rattle.std.proofs.lemmas.List.{length-take, length-append}
-use Rattle.routes.specs.Draws.{Drawn}
 use Rattle.routes.proofs.Drawing.{drawn_none, drawn_room, drawn_count, drawn_by, to_spend, spent}
 use Rattle.routes.proofs.taking.draw.Goals as goal
 use Rattle.routes.proofs.taking.draw.Goals.{After-walk-start}
@@ -10,9 +9,6 @@ loop-done-init c = (
   ([], drawn_none c.args.net.now.lines.now c.args.left.now c.args.a c.args.b c.args.store.now),
   (c.requires.flows.0, omega (arith, c.requires.flows.1), c.requires.flows.2),
 )
-
-pub slice_bounds-walk-end : goal.slice_bounds-walk-end
-slice_bounds-walk-end c = omega (arith, c.loop-done.invariant.0.1.within)
 
 pub walk-start-requires : goal.walk-start-requires
 walk-start-requires c =
@@ -56,7 +52,7 @@ loop-done-preserved c =
         rs,
         drawn_by c.args.net.now.lines.now c.args.left.now c.loop-done.left c.walk-start.new.left c.args.a c.args.b c.loop-done._done
             c.loop-done.invariant.0.0 c.loop-done.store c.loop-done.top c.walk-start.new.path c.walk-start.result c.loop-done.invariant.0.1 c.walk-start.ensures (size here)
-            (c.loop-done.top - 0) c.put_count-top.new.store c.put_count-top.result (omega arith) (room here) c.put_count-top.ensures.after c.put_count-top.ensures.place,
+            c.loop-done.top c.put_count-top.new.store c.put_count-top.result refl (room here) c.put_count-top.ensures.after c.put_count-top.ensures.place,
       ),
       (
         c.loop-done.invariant.1.0 - 1,
@@ -64,11 +60,4 @@ loop-done-preserved c =
         spent c.args.net.now.lines.now c.loop-done.left c.walk-start.new.left c.args.a c.args.b c.loop-done.invariant.1.0 c.walk-start.new.path c.walk-start.result
             (omega (arith, c.loop-done.invariant.1.1)) c.loop-done.invariant.1.2 c.walk-start.ensures,
       ),
-    )
-
-pub returns : goal.returns
-returns c =
-    let e : c.loop-done._done ≡ c.args.k = omega arith in (
-      c.loop-done.invariant.0.0,
-      subst (λ i. Drawn c.args.net.now.lines.now c.args.left.now c.loop-done.left c.args.a c.args.b i c.loop-done.invariant.0.0 c.loop-done.store c.loop-done.top) e c.loop-done.invariant.0.1,
     )

@@ -50,8 +50,3 @@ back-preserved c =
     c.arriving-line.ensures.inside (omega arith) c.arriving-line.ensures.comes c.back.invariant
     c.extend-top.new.path c.extend-top.result (omega arith) c.extend-top.ensures.within c.extend-top.ensures.longer
     (λ Q y q w. simp from at (c.extend-top.ensures.led Q y q w))))
-
-pub returns : goal.returns
-returns c =
-    let e : c.back.place ≡ c.args.a = omega arith in
-    subst (λ x. Back c.args.net.now.lines.now c.args.left.now c.back.left c.args.a c.args.b x c.back.path c.back.top) e c.back.invariant

@@ -1,6 +1,4 @@
-use Rattle.std.proofs.Common.{ℕ, min, sym, ap, ◌∙◌}
-use Rattle.cuttree.specs.Nodes.{weight_of}
-use Rattle.cuttree.specs.Trees.{lightest}
+use Rattle.std.proofs.Common.{ℕ, sym, ap, ◌∙◌}
 use Rattle.cuttree.proofs.Climbing.{lightest_here, lightest_on}
 use Rattle.cuttree.proofs.Rooting.{tree_rooted, two_parts}
 use Rattle.cuttree.proofs.tree.Tree.+lightest_edge.Goals as goal
@@ -16,6 +14,6 @@ pub returns : goal.returns
 returns t c =
     let tree = c.args.self.now in
     let two = two_parts tree.sites c.args.a c.args.b c.requires.two in
-    c.min.ensures ∙ ap (min (weight_of tree.nodes c.by_joining-late.result.0)) (c.lightest_edge.ensures ∙ ap (λ (u : ℕ). lightest tree u c.by_joining-late.result.1) c.from-up.ensures)
-    ∙ lightest_on tree.sites tree.nodes (tree_rooted tree) c.args.a c.args.b _ _ two.0 two.1 two.2
-    (ap (λ (p : ℕ × ℕ). p.0) c.by_joining-late.ensures) (ap (λ (p : ℕ × ℕ). p.1) c.by_joining-late.ensures) (λ e. c.if-up-early.false (c.from-up.ensures ∙ e))
+    let on = lightest_on tree.sites tree.nodes (tree_rooted tree) c.args.a c.args.b _ _ two.0 two.1 two.2
+    (ap (λ (p : ℕ × ℕ). p.0) c.by_joining-late.ensures) (ap (λ (p : ℕ × ℕ). p.1) c.by_joining-late.ensures) (λ e. c.if-up-early.false (c.from-up.ensures ∙ e)) in
+    cc
