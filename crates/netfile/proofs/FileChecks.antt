@@ -92,12 +92,13 @@ module _ (bs : List ℕ) where
       let right : (q : ℕ) → (q ≡ 8) × ((n ≡ 0) ⊎ ((512 < n) ⊎ (n % 8 ≡ 0 → ⊥))) → ⊥ =
       λ q x. elim x.1 [ inl y ↦ omega arith | inr y ↦ elim y [ inl z ↦ omega arith | inr z ↦ z c ] ] in
       one_unless At up 7 (leb 0 (m / 6) && (leb (m / 6) 512 && eqb (m % 6) 0)) (PartLength 12)
-      (λ f. let u = and_parts _ _ (and_parts _ _ f).1 in
+      (λ f. let most = and_parts (leb 0 (m / 6)) (leb (m / 6) 512 && eqb (m % 6) 0) f in
+      let u = and_parts (leb (m / 6) 512) (eqb (m % 6) 0) most.1 in
       let g : m / 6 ≤ 512 = leb-true _ _ u.0 in
       let h : m % 6 ≡ 0 = eqb-true _ _ u.1 in
       λ q x. elim x [
         | inl y ↦ right q y
-        | inr y ↦ elim y.1 [ inl z ↦ omega (arith, g, z) | inr z ↦ z h ]
+        | inr y ↦ elim y.1 [ inl z ↦ omega arith | inr z ↦ z h ]
       ])
       (λ f. (
         refl,

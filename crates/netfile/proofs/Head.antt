@@ -20,3 +20,5 @@ module _ (bs : List ℕ) where
   pub pairs_in_head : header_in (take 14 bs) ≡ header_in bs
   pairs_in_head =
       rw (head_byte 6 (omega arith), head_byte 7 (omega arith), head_byte 8 (omega arith), head_byte 9 (omega arith), head_byte 10 (omega arith), head_byte 11 (omega arith), head_byte 12 (omega arith), head_byte 13 (omega arith))
+
+pub ruleset in_head = (signature_in_head, edition_in_head, pair_count_in_head, pairs_in_head)

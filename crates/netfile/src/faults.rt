@@ -1,6 +1,6 @@
 ghost use Rattle.std.specs.Prelude.{◌≡◌, Some};
 ghost use Rattle.netfile.specs.Faults.{layer_name, number_of, layer_of, place_of};
-ghost use Rattle.netfile.specs.Faults.{file_number, file_place, record_number, record_layer, record_place};
+ghost use Rattle.netfile.specs.Faults.{file_number, file_place};
 ghost use Rattle.netfile.specs.declared.faults.NetworkFault.TheVariants.{Record};
 ghost use Rattle.netfile.specs.declared.faults.RecordFault.TheVariants.{File};
 
@@ -85,41 +85,10 @@ impl FileFault {
         ensures { result ≡ file_place self }
     {
         match self {
-            FileFault::Size => 0,
-            FileFault::Signature => 0,
+            FileFault::Size | FileFault::Signature => 0,
             FileFault::Edition => 4,
             FileFault::PairCount => 5,
-            FileFault::PartBounds(place) => place,
-            FileFault::PartLength(place) => place,
-        }
-    }
-}
-
-impl RecordFault {
-    fn number(self) -> u8
-        ensures { result ≡ record_number self }
-    {
-        match self {
-            RecordFault::File(fault) => fault.number(),
-            RecordFault::NotRising(_) => 8,
-        }
-    }
-
-    fn layer(self) -> Layer
-        ensures { result ≡ record_layer self }
-    {
-        match self {
-            RecordFault::File(_) => Layer::File,
-            RecordFault::NotRising(_) => Layer::Record,
-        }
-    }
-
-    fn place(self) -> usize
-        ensures { result ≡ record_place self }
-    {
-        match self {
-            RecordFault::File(fault) => fault.place(),
-            RecordFault::NotRising(place) => place,
+            FileFault::PartBounds(place) | FileFault::PartLength(place) => place,
         }
     }
 }
@@ -130,7 +99,8 @@ impl NetworkFault {
         ensures { result ≡ number_of self }
     {
         match self {
-            NetworkFault::Record(fault) => fault.number(),
+            NetworkFault::Record(RecordFault::File(fault)) => fault.number(),
+            NetworkFault::Record(RecordFault::NotRising(_)) => 8,
             NetworkFault::Ends(_) => 9,
         }
     }
@@ -140,7 +110,8 @@ impl NetworkFault {
         ensures { result ≡ layer_of self }
     {
         match self {
-            NetworkFault::Record(fault) => fault.layer(),
+            NetworkFault::Record(RecordFault::File(_)) => Layer::File,
+            NetworkFault::Record(RecordFault::NotRising(_)) => Layer::Record,
             NetworkFault::Ends(_) => Layer::Network,
         }
     }
@@ -150,7 +121,8 @@ impl NetworkFault {
         ensures { result ≡ place_of self }
     {
         match self {
-            NetworkFault::Record(fault) => fault.place(),
+            NetworkFault::Record(RecordFault::File(fault)) => fault.place(),
+            NetworkFault::Record(RecordFault::NotRising(place)) => place,
             NetworkFault::Ends(place) => place,
         }
     }

@@ -40,12 +40,14 @@ impl<'a> NetworkFile<'a> {
         })
     }
 
+    #[tactic(auto, using(crate::proofs::Chunks::length_records, crate::proofs::Tables::sites_length))]
     pub fn site_count(&self) -> usize
         ensures { result ≡ length (sites_in self.now.bytes.now) }
     {
         self.sites.records.len()
     }
 
+    #[tactic(auto, using(crate::proofs::Chunks::length_records, crate::proofs::Tables::lines_length))]
     pub fn line_count(&self) -> usize
         ensures { result ≡ length (lines_in self.now.bytes.now) }
     {

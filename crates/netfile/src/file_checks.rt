@@ -1,8 +1,8 @@
-ghost use Rattle.std.specs.Prelude.{◌≡◌, ◌/◌, ◌≤◌, length, take, IfOk, OnOk};
+ghost use Rattle.std.specs.Prelude.{◌≡◌, ◌/◌, length, take, IfOk};
 ghost use Rattle.netfile.specs.Headers.{header_in};
 ghost use Rattle.netfile.specs.Layout.{IsRecordSize, records_from};
 ghost use Rattle.netfile.specs.Search.{or_else};
-ghost use Rattle.netfile.specs.Meaning.{fault_in, size_fault, signature_fault, edition_fault, pair_count_fault};
+ghost use Rattle.netfile.specs.Meaning.{fault_in, unless, size_fault, signature_fault};
 ghost use Rattle.netfile.specs.Meaning.{bounds_fault, parts_fault, length_fault, site_length_fault, line_length_fault, file_fault};
 
 use crate::faults::FileFault;
@@ -20,14 +20,15 @@ const MOST_SITES: usize = 64;
 const MOST_LINES: usize = 512;
 
 /// The checks of header and parts, in their order.
+#[tactic(auto, using(crate::proofs::Head::in_head), unfolding(crate::specs::Meaning::file_fault))]
 pub fn check_file(bytes: &[u8]) -> Result<Parts<'_>, FileFault>
     ensures fault { fault_in result ≡ file_fault bytes.now }
     ensures lent { IfOk result (λ p. p.bytes.now ≡ bytes.now) }
 {
     let first = check_size(bytes)?;
     check_signature(first)?;
-    check_edition(first)?;
-    check_pair_count(first)?;
+    deny_unless(first[4] == 1, FileFault::Edition)?;
+    deny_unless(first[5] == 2, FileFault::PairCount)?;
     let header = Header::read(first);
     let parts = check_parts(bytes, header)?;
     check_lengths(header)?;
@@ -37,7 +38,6 @@ pub fn check_file(bytes: &[u8]) -> Result<Parts<'_>, FileFault>
 /// The bytes of the header, of a file that is neither too short nor too long.
 fn check_size(bytes: &[u8]) -> Result<&[u8; HEADER_BYTES], FileFault>
     ensures fault { fault_in result ≡ size_fault bytes.now }
-    ensures long { OnOk result (14 ≤ length bytes.now) }
     ensures header { IfOk result (λ h. h.now ≡ take 14 bytes.now) }
 {
     match bytes.first_chunk() {
@@ -53,24 +53,6 @@ fn check_signature(header: &[u8; HEADER_BYTES]) -> Result<(), FileFault>
         [b'L', b'N', b'E', b'T', ..] => Ok(()),
         _ => Err(FileFault::Signature),
     }
-}
-
-fn check_edition(header: &[u8; HEADER_BYTES]) -> Result<(), FileFault>
-    ensures { fault_in result ≡ edition_fault header.now }
-{
-    if header[4] != 1 {
-        return Err(FileFault::Edition);
-    }
-    Ok(())
-}
-
-fn check_pair_count(header: &[u8; HEADER_BYTES]) -> Result<(), FileFault>
-    ensures { fault_in result ≡ pair_count_fault header.now }
-{
-    if header[5] != 2 {
-        return Err(FileFault::PairCount);
-    }
-    Ok(())
 }
 
 /// Each part starts past the header and past the part before it, and ends within the file.
@@ -100,9 +82,8 @@ fn check_part<const N: usize>(
     ensures start { IfOk result (λ p. p.start ≡ part.start) }
     ensures records { IfOk result (λ p. p.records.now ≡ records_from bytes.now part.start N (part.size / N)) }
 {
-    if usize::from(part.start) < earliest || part.end() > bytes.len() {
-        return Err(FileFault::PartBounds(place));
-    }
+    let within = earliest <= usize::from(part.start) && part.end() <= bytes.len();
+    deny_unless(within, FileFault::PartBounds(place))?;
     Ok(Part::read(bytes, part))
 }
 
@@ -126,8 +107,13 @@ fn check_length<const N: usize>(
 {
     let size = usize::from(size);
     let records = size / N;
-    if records < fewest || records > most || size % N != 0 {
-        return Err(FileFault::PartLength(place));
-    }
-    Ok(())
+    let whole = fewest <= records && records <= most && size % N == 0;
+    deny_unless(whole, FileFault::PartLength(place))
+}
+
+/// The fault, unless the test holds.
+fn deny_unless(holds: bool, fault: FileFault) -> Result<(), FileFault>
+    ensures { fault_in result ≡ unless holds fault }
+{
+    if holds { Ok(()) } else { Err(fault) }
 }

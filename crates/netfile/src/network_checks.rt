@@ -1,9 +1,7 @@
 ghost use Rattle.std.specs.Prelude.{◌≡◌, IfOk};
-ghost use Rattle.netfile.specs.Layout.{site_numbers};
-ghost use Rattle.netfile.specs.Search.{lowest_where};
 ghost use Rattle.netfile.specs.Layout.{line_count};
+ghost use Rattle.netfile.specs.Search.{lowest_where};
 ghost use Rattle.netfile.specs.Meaning.{fault_in, joins_two, wrong_ends, ends_fault, first_fault};
-ghost use Rattle.netfile.specs.Networks.{Judged};
 
 use crate::faults::NetworkFault;
 use crate::numbered::{Numbered, find};
@@ -12,9 +10,9 @@ use crate::record_checks::check_records;
 use crate::records::LineRecord;
 
 /// All checks, in their order.
+#[tactic(auto, unfolding(crate::specs::Meaning::first_fault))]
 pub fn check_network(bytes: &[u8]) -> Result<Parts<'_>, NetworkFault>
     ensures fault { fault_in result ≡ first_fault bytes.now }
-    ensures judged { Judged bytes.now (fault_in result) }
     ensures lent { IfOk result (λ p. p.bytes.now ≡ bytes.now) }
 {
     let parts = check_records(bytes)?;
@@ -23,6 +21,7 @@ pub fn check_network(bytes: &[u8]) -> Result<Parts<'_>, NetworkFault>
 }
 
 /// Each line joins two different sites of the file.
+#[tactic(auto, using(crate::proofs::PartFaults::line_within), unfolding(crate::specs::Meaning::ends_fault))]
 fn check_ends(parts: &Parts<'_>) -> Result<(), NetworkFault>
     ensures { fault_in result ≡ ends_fault parts.now.bytes.now }
 {

@@ -60,6 +60,7 @@ pub fn first_not_rising<T: Numbered>(records: &T) -> Option<usize>
 
 /// Whether the number at a position is not above the one before it. The first record has none before it, so its number
 /// may be 0.
+// Windows of two would want the numbers in a slice, and `Numbered` gives them by position.
 fn falls<T: Numbered>(records: &T, i: usize) -> bool
     ensures { result ≡ falls_at (T.numbers records.now) i }
 {

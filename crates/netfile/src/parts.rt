@@ -16,6 +16,7 @@ pub struct Part<'a, const N: usize> {
 
 impl<'a, const N: usize> Part<'a, N> {
     /// The records in an extent of the file.
+    #[tactic(auto, using(crate::proofs::Chunks::records_are_chunks))]
     pub fn read(bytes: &'a [u8], extent: Extent) -> Part<'a, N>
         requires sized { IsRecordSize N }
         requires within { extent.start + extent.size ≤ length bytes.now }
@@ -44,6 +45,7 @@ impl<const N: usize> Numbered for Part<'_, N> {
     }
 
     fn number(&self, i: usize) -> u16 {
+        // A closure for `map_or` is proved without what the part says of its records' size.
         match self.records.get(i) {
             Some(record) => number_of(record[0], record[1]),
             None => 0,

@@ -9,6 +9,7 @@ use crate::parts::{Part, Parts};
 
 /// The checks of header and parts, and then that in the site part and in the line part each number is above the one
 /// before it.
+#[tactic(auto, using(crate::proofs::PartFaults::sites_order, crate::proofs::PartFaults::lines_order))]
 pub fn check_records(bytes: &[u8]) -> Result<Parts<'_>, RecordFault>
     ensures fault { fault_in result ≡ record_fault bytes.now }
     ensures lent { IfOk result (λ p. p.bytes.now ≡ bytes.now) }
