@@ -28,6 +28,7 @@ pub struct Book<E> {
     ghost line_room: { 512 ≤ vec_capacity lines },
     ghost row_room: { 512 ≤ vec_capacity standing },
     ghost shown_room: { 1024 ≤ vec_capacity shown },
+    // what a network asks, in three facts: each is cited alone, also by the crates above, and would be taken out of one
     ghost few_sites: { vec_len sites ≤ 64 },
     ghost few_lines: { vec_len lines ≤ 512 },
     ghost joined: { AllJoin (vec_len sites) lines.items },

@@ -120,6 +120,7 @@ impl<E: Engine> Book<E> {
     pub(super) fn enter(&mut self, first: u16, second: u16, k: u32) -> Result<Ticket, Fault>
         ensures { Booked self.old first second k self.new result }
     {
+        // fixed room, since no call allocates
         let mut list = [0u16; MOST_LISTED];
         let length = self.plan(first, second, k, &mut list)?;
         let listed = &list[0..length];
