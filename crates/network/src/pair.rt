@@ -1,4 +1,4 @@
-ghost use Rattle.std.specs.Prelude.{◌≡◌, ◌<◌, ◌≢◌};
+ghost use Rattle.std.specs.Prelude.{◌≡◌, ◌<◌, ◌≢◌, length, drop};
 ghost use Rattle.network.specs.Answers.{PartedBy, Carries};
 ghost use Rattle.network.specs.Cuts.{level_of};
 
@@ -23,6 +23,7 @@ impl Pair<'_> {
         ensures level { result.value ≡ level_of self.now.net.sites self.now.net.lines.now self.now.a self.now.b }
         ensures parted { PartedBy self.now.net.sites self.now.net.lines.now self.now.a self.now.b result.value result.side }
         ensures carried { Carries self.now.net.lines.now marks.new self.now.a self.now.b result.value }
+        ensures rest { drop (length self.now.net.lines.now) marks.new ≡ drop (length self.now.net.lines.now) marks.old }
     {
         let Pair { net, a, b } = *self;
         let mut work = [SiteWork::default(); MOST_SITES];
