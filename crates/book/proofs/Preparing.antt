@@ -1,5 +1,5 @@
 -- The checks of questions and bookings, from the places of two sites on, and the room that is left for a booking.
-use Rattle.std.proofs.Common.{◌≡◌, ℕ, ◌+◌, ◌*◌, ◌^◌, ◌<◌, ◌≤◌, List, Ok, vec_len, vec_capacity, Option, sym, refl, ap, ◌∙◌, subst₂, arith, pow_mono}
+use Rattle.std.proofs.Common.{◌≡◌, ℕ, ◌+◌, ◌*◌, ◌<◌, ◌≤◌, List, Ok, vec_len, vec_capacity, Option, sym, refl, ap, ◌∙◌, subst₂, arith}
 use Rattle.std.proofs.lemmas.Bool.{ne_eqb}
 use Rattle.network.specs.declared.line.Line.{Line}
 use Rattle.network.specs.Cuts.{level_of}
@@ -39,9 +39,6 @@ module _ {E : Type 0} (b : Book E) (x y : ℕ) (pair : Pair) (h : Placed b x y (
   pair_side v s p =
       side_there b x y pair.a pair.b h.0 v s
       (subst₂ (λ (n : ℕ) (l : List Line). PartedBy n l pair.a pair.b v s) size_there h.2 p)
-
-  pub pair_side_small : (v s : ℕ) → PartedBy pair.net.sites pair.net.lines.now pair.a pair.b v s → s < 2 ^ 64
-  pair_side_small v s p = let m = pow_mono pair.net.few_sites in omega (arith, p.within, m)
 
 -- where l lines are free, a booking of them has room for its row and for two numbers a line
 pub room_left : {E : Type 0} (b : Book E) (f l : ℕ) → free_count (lines_of b) ≡ f + l → 1 ≤ l

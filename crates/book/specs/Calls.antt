@@ -113,7 +113,7 @@ module _ {E : Type 0} where
   FewShown b x y SameSite = Unit {0}
   FewShown b x y LevelOutOfRange = Unit {0}
   FewShown b x y NumbersSpent = Unit {0}
-  FewShown b x y (TooFewRoutes v s) = (v ≡ book_level b x y) × SideOf b x y v s
+  FewShown b x y (TooFewRoutes f) = (f.value ≡ book_level b x y) × SideOf b x y f.value f.side
   FewShown b x y NoSuchBooking = Unit {0}
   FewShown b x y ShortList = Unit {0}
 

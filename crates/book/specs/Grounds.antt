@@ -17,7 +17,7 @@ fault_number (NoSuchSite j) = 10
 fault_number SameSite = 11
 fault_number LevelOutOfRange = 12
 fault_number NumbersSpent = 13
-fault_number (TooFewRoutes v s) = 14
+fault_number (TooFewRoutes f) = 14
 fault_number NoSuchBooking = 15
 fault_number ShortList = 16
 
@@ -40,7 +40,7 @@ fault_layer (NoSuchSite j) = OfBook
 fault_layer SameSite = OfBook
 fault_layer LevelOutOfRange = OfBook
 fault_layer NumbersSpent = OfBook
-fault_layer (TooFewRoutes v s) = OfBook
+fault_layer (TooFewRoutes f) = OfBook
 fault_layer NoSuchBooking = OfBook
 fault_layer ShortList = OfBook
 
@@ -63,7 +63,7 @@ ground_of (NoSuchSite j) = no_site j
 ground_of SameSite = same_site
 ground_of LevelOutOfRange = level_out
 ground_of NumbersSpent = numbers_spent
-ground_of (TooFewRoutes v s) = too_few
+ground_of (TooFewRoutes f) = too_few
 ground_of NoSuchBooking = no_booking
 ground_of ShortList = list_short
 

@@ -24,7 +24,7 @@ pub record Planned (ls : List Line) (a b k : ℕ) (list : List ℕ) (w : ℕ) : 
 -- k separate routes where the level is k or more, else the level and a side that shows it
 abbrev pub Chosen : ℕ → List Line → ℕ → ℕ → ℕ → List ℕ → Result ℕ Fault → Type 0
 Chosen n ls a b k list (Ok w) = (k ≤ level_of n ls a b) × Planned ls a b k list w
-Chosen n ls a b k list (Err f) = (level_of n ls a b < k) × ((s : ℕ) × (f ≡ TooFewRoutes (level_of n ls a b) s) × PartedBy n ls a b (level_of n ls a b) s)
+Chosen n ls a b k list (Err f) = (level_of n ls a b < k) × ((s : ℕ) × (f ≡ TooFewRoutes (record { value = level_of n ls a b; side = s })) × PartedBy n ls a b (level_of n ls a b) s)
 
 module _ {E : Type 0} where
   -- where the booking of a ticket of this book stands

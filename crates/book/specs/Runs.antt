@@ -86,7 +86,7 @@ module _ {E : Type 0} where
   -- too few means a small cut, and the denial shows the smallest
   pub record SmallestShown (b : Book E) (l : Ledger) (x y px py k : ℕ) : Type 0 where
     pub denied_as_few : (booking_check b x y k ≡ Some too_few) ↔ SmallCut l px py k
-    pub shown : (after : Book E) (v s : ℕ) → Booked b x y k after (Err (TooFewRoutes v s)) →
+    pub shown : (after : Book E) (v s : ℕ) → Booked b x y k after (Err (TooFewRoutes (record { value = v; side = s }))) →
         PartedBy (length l.sites) (lines_now l) px py v s × (v < k)
         × ((c : ℕ) → c < 2 ^ length l.sites → differ (member c px) (member c py) ≡ true → v ≤ crossing (lines_now l) c)
 

@@ -1,11 +1,13 @@
 ghost use Rattle.std.specs.Prelude.{◌≡◌, Some};
 ghost use Rattle.book.specs.declared.fault.Fault.TheVariants.{Network};
+ghost use Rattle.network.specs.Sides.{size_below};
 ghost use Rattle.book.specs.Grounds.{fault_number, fault_layer, layer_above, layer_word};
 
 use netfile::NetworkFault;
+use network::Flow;
 use std::fmt;
 
-// Flat, with the three of the reader beside the one of the book: a match on a layer nested in a layer would be two.
+// Flat, as the four layers are published: nested in a variant of its own, the reader's three would be named in two places.
 /// The layer that speaks a denial.
 #[derive(Debug, Clone, Copy, PartialEq, Eq)]
 pub enum Layer {
@@ -49,8 +51,7 @@ pub enum Fault {
     SameSite,
     LevelOutOfRange,
     NumbersSpent,
-    // The level and a side that shows it, apart: a `Flow` here would be taken apart by every caller and by the C interface.
-    TooFewRoutes(usize, u64),
+    TooFewRoutes(Flow),
     NoSuchBooking,
     ShortList,
 }
@@ -61,6 +62,18 @@ pub struct Cut {
     pub level: usize,
     pub side: u64,
     pub size: u32,
+}
+
+impl From<Flow> for Cut {
+    ghost from_gives = { λ f c. (c.level ≡ f.value) × (c.side ≡ f.side) × (c.size ≡ size_below 64 f.side) };
+
+    fn from(flow: Flow) -> Cut {
+        Cut {
+            level: flow.value,
+            side: flow.side,
+            size: flow.side.count_ones(),
+        }
+    }
 }
 
 impl From<NetworkFault> for Fault {
@@ -83,7 +96,7 @@ impl Fault {
             Fault::SameSite => 11,
             Fault::LevelOutOfRange => 12,
             Fault::NumbersSpent => 13,
-            Fault::TooFewRoutes(_, _) => 14,
+            Fault::TooFewRoutes(_) => 14,
             Fault::NoSuchBooking => 15,
             Fault::ShortList => 16,
         }

@@ -13,7 +13,8 @@ use crate::listing::{Entry, Reading};
 use crate::standing::Standing;
 use network::{Line, LineState, Site};
 
-/// Lays out, in an empty list, what a function gives at each of the first positions.
+/// Lays out, in an empty list, what a function gives at each of the first positions. They are what it is asked for, and
+/// index nothing.
 pub(crate) fn lay<T, F: Fn(usize) -> Option<T>>(list: &mut Vec<T>, count: usize, at: F)
     requires callable { F.IsAlwaysCallable at }
     requires empty { vec_len list.old ≡ 0 }
@@ -41,7 +42,8 @@ pub(crate) fn name_places(sites: &[Site], list: &mut [u16])
     }
 }
 
-/// Gives the lines of listed routes to a number.
+/// Gives the lines of listed routes to a number. The lines come as a vector here and below: lent as a slice, they were told
+/// to the caller afterwards only as a patch of the old ones, which it had to undo.
 pub(crate) fn hold(lines: &mut Vec<Line>, listed: &[u16], number: u16)
     requires { (p : ℕ) → among (positions_told 0 listed.now) p ≡ true → p < vec_len lines.old }
     ensures len { vec_len lines.new ≡ vec_len lines.old }

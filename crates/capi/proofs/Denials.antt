@@ -37,7 +37,7 @@ by_ground (NoSuchSite j) = refl
 by_ground SameSite = refl
 by_ground LevelOutOfRange = refl
 by_ground NumbersSpent = refl
-by_ground (TooFewRoutes v s) = refl
+by_ground (TooFewRoutes f) = refl
 by_ground NoSuchBooking = refl
 by_ground ShortList = refl
 

@@ -39,8 +39,8 @@ impl Task for Levels {
     }
 }
 
-// Builds the tree so many times, at least once, and answers the last. A function `often(turns, || build::<E>(sites, lines))`
-// would serve this loop alone.
+// Builds the tree so many times, at least once, and answers the last. One function `often(turns, || ..)` for this and the two
+// other tasks would have to lend desk or list to each turn and to tell what a denied turn leaves.
 fn build_often<E: Engine>(sites: usize, lines: &[Line], turns: u32) -> Option<Tree>
     ensures { Built sites lines.now result }
 {

@@ -45,6 +45,7 @@ pub fn with_engine<T: Task>(
 ) -> Result<T::Answer, Refusal>
     ensures { OverAny (T.check task.now) (T.done task.now) engine bytes.now list.old list.new result }
 {
+    // each arm is a type, so that no closure or table of functions can stand for the two
     match engine {
         0 => with_desk::<ShortestRoute, T>(heap, bytes, task, list),
         1 => with_desk::<Push, T>(heap, bytes, task, list),

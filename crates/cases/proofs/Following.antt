@@ -125,7 +125,7 @@ module _ {E : Type 0} where
       (q (given_back h.shown) h.going.reached 0 1 (asked_10_20 (given_back h.shown) 4 refl (omega arith) (omega arith) (omega arith))).1.1 (cut_back h.shown)
 
   -- what comes along with the denial of four
-  pub four_shown : (b after : Book E) (v s : ℕ) → Returned b → Booked b 10 20 4 after (Err (TooFewRoutes v s)) → FourDenied (v, s)
+  pub four_shown : (b after : Book E) (v s : ℕ) → Returned b → Booked b 10 20 4 after (Err (TooFewRoutes (record { value = v; side = s }))) → FourDenied (record { value = v; side = s })
   unfolding worked_file sites_in lines_in lowest_where numbers_from holders ended
   four_shown b after v s h o =
       let asked = asked_10_20 (given_back h.shown) 4 refl (omega arith) (omega arith) (omega arith) in

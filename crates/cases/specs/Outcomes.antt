@@ -2,12 +2,13 @@
 use Rattle.std.specs.Prelude.{◌≡◌, ℕ, true, ◌≢◌, List, slice_index}
 use Rattle.network.specs.declared.line.LineState.TheVariants.{Free}
 use Rattle.network.specs.Answers.{PartedBy}
+use Rattle.network.specs.declared.engine.Flow.{Flow}
 use Rattle.cases.specs.declared.outcome.Outcome.{Outcome}
 use Rattle.cases.specs.Table.{worked}
 
 -- four routes from 10 to 20 are too few: three lines cross the side that is shown, which holds 10 and not 20
-abbrev pub FourDenied : ℕ × ℕ → Type 0
-FourDenied d = (d.0 ≡ 3) × PartedBy 4 (worked Free) 0 1 3 d.1
+abbrev pub FourDenied : Flow → Type 0
+FourDenied f = (f.value ≡ 3) × PartedBy 4 (worked Free) 0 1 3 f.side
 
 -- with three routes booked only 30 and 40 share a group at level 1: only they have one entry
 pub record OnlyPair (es : List ℕ) : Type 0 where

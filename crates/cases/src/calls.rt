@@ -13,7 +13,7 @@ ghost use Rattle.cases.specs.declared.outcome.CallFault.TheVariants.{OutOfMemory
 
 use crate::outcome::{CallFault, Outcome};
 use book::{Book, Fault, Ticket};
-use network::Engine;
+use network::{Engine, Flow};
 use std::alloc::Global;
 
 /// Opens the worked network; books three routes from 10 to 20; lists the groups at level 1; releases the three; and
@@ -40,7 +40,7 @@ fn once_open<E: Engine>(book: &mut Book<E>) -> Result<Outcome, Fault>
     requires { Going book.old at_first }
     ensures { IsOkAnd result Happened }
 {
-    let ticket = want_three(book)?;
+    let ticket = want(book, 3)?;
     with_three(book, ticket)
 }
 
@@ -66,11 +66,11 @@ fn with_three<E: Engine>(book: &mut Book<E>, ticket: Ticket) -> Result<Outcome, 
     }
 }
 
-fn once_returned<E: Engine>(book: &mut Book<E>) -> (usize, u64)
+fn once_returned<E: Engine>(book: &mut Book<E>) -> Flow
     requires { Returned book.old }
     ensures { FourDenied result }
 {
-    match want_four(book) {
+    match want(book, 4) {
         // A ticket that cannot be.
         Ok(_ticket) => unreachable!(),
         Err(fault) => shown_with(fault),
@@ -78,26 +78,20 @@ fn once_returned<E: Engine>(book: &mut Book<E>) -> (usize, u64)
 }
 
 /// The level and the side that come along where there are too few routes.
-fn shown_with(fault: Fault) -> (usize, u64)
+fn shown_with(fault: Fault) -> Flow
     requires { ground_of fault ≡ too_few }
-    ensures { fault ≡ TooFewRoutes result.0 result.1 }
+    ensures { fault ≡ TooFewRoutes result }
 {
-    let Fault::TooFewRoutes(level, side) = fault else {
+    let Fault::TooFewRoutes(flow) = fault else {
         unreachable!()
     };
-    (level, side)
+    flow
 }
 
-fn want_three<E: Engine>(book: &mut Book<E>) -> Result<Ticket, Fault>
-    ensures booked { Booked book.old 10 20 3 book.new result }
-    ensures lawful { BookedByLaw book.old 10 20 3 result }
+/// Wants `k` routes from 10 to 20.
+fn want<E: Engine>(book: &mut Book<E>, k: u32) -> Result<Ticket, Fault>
+    ensures booked { Booked book.old 10 20 k book.new result }
+    ensures lawful { BookedByLaw book.old 10 20 k result }
 {
-    book.book(10, 20, 3)
-}
-
-fn want_four<E: Engine>(book: &mut Book<E>) -> Result<Ticket, Fault>
-    ensures booked { Booked book.old 10 20 4 book.new result }
-    ensures lawful { BookedByLaw book.old 10 20 4 result }
-{
-    book.book(10, 20, 4)
+    book.book(10, 20, k)
 }

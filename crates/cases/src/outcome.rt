@@ -2,17 +2,18 @@ ghost use Rattle.std.specs.Prelude.{◌≡◌};
 ghost use Rattle.cases.specs.declared.outcome.CallFault.TheVariants.{OutOfMemory, Denied};
 
 use book::Fault;
+use network::Flow;
 use std::alloc::AllocError;
 
-/// What the worked calls came to, each of them accepted.
+/// What the worked calls came to, all but the last of them accepted.
 #[derive(Debug, Clone, Copy, PartialEq, Eq)]
 pub struct Outcome {
     /// The group list at level 1 while the three routes were booked.
     pub entries: [u16; 4],
-    /// Whether the booking of the three still stood at its release.
+    /// That the booking of the three still stood at its release: no other answer can come, and the contract promises it by name.
     pub released: bool,
     /// The level and the side that came with the denial of four routes.
-    pub four_denied: (usize, u64),
+    pub four_denied: Flow,
 }
 
 /// Why the worked calls came to no outcome: memory ran out, or the book denied a call that it is to accept.

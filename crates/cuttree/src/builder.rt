@@ -34,6 +34,7 @@ pub fn build<E: Engine>(sites: usize, lines: &[Line]) -> Option<Tree>
     if sites == 0 {
         return None;
     }
+    // fixed room here and for the marks, since a tree is made without allocation
     let mut nodes = [Node::default(); MOST_SITES];
     let whole = Pending::new(side::all_below(sites), 0);
     grow::<E>(&net, whole, 0, &mut nodes);

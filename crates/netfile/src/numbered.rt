@@ -44,7 +44,8 @@ impl<R: HasNumber> Numbered for Vec<R> {
     }
 }
 
-/// The first position at which a number stands.
+/// The first position at which a number stands. Nothing says here that the numbers rise, and there are 64 at most where it is
+/// asked, so that they are gone through.
 pub fn find<T: Numbered>(records: &T, number: u16) -> Option<usize>
     ensures { result ≡ position_of (T.numbers records.now) number }
 {

@@ -20,7 +20,8 @@ pub fn check_records(bytes: &[u8]) -> Result<Parts<'_>, RecordFault>
     Ok(parts)
 }
 
-/// The numbers of the records of one part.
+/// The numbers of the records of one part. A `match`, as in the check of ends: the place is that of a record, which a closure
+/// would have to be told.
 fn check_order<const N: usize>(part: &Part<'_, N>) -> Result<(), RecordFault>
     ensures { fault_in result ≡ order_fault (numbers_of part.now.records.now) part.now.start N }
 {

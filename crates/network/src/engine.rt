@@ -3,7 +3,8 @@ ghost use Rattle.network.specs.Answers.{Answer};
 use crate::line::Line;
 
 /// What an engine notes of one site while it works: the line by which a search came to it and the layer at which it
-/// was seen, or its height and surplus.
+/// was seen, or its height and surplus. A site not seen has layer 0: one test of a sum of layers passes most lines by, where
+/// an `Option` would have to be looked into twice.
 #[derive(Debug, Default, Clone, Copy, PartialEq, Eq)]
 pub struct SiteWork {
     pub parent: u16,

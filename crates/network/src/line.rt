@@ -1,7 +1,7 @@
 ghost use Rattle.std.specs.Prelude.{◌≡◌, Decides};
 ghost use Rattle.network.specs.Lines.{is_free, Joins, AllJoin};
 
-/// What a line is doing now: free, or held by the booking of a number.
+/// What a line is doing now: free, or held by the booking of a number. It is no `Option`, since a line may one day be neither.
 #[derive(Debug, Clone, Copy, PartialEq, Eq)]
 pub enum LineState {
     Free,

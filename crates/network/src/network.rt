@@ -1,4 +1,4 @@
-//! The networks that have a tree, and on which engines work.
+//! The networks on which engines work; where they have a site, they have a tree.
 
 ghost use Rattle.std.specs.Prelude.{◌≡◌, ◌≤◌, length, IfSome, IfNone};
 ghost use Rattle.network.specs.Lines.{AllJoin, Fits};

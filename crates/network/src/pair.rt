@@ -26,6 +26,7 @@ impl Pair<'_> {
         ensures rest { drop (length self.now.net.lines.now) marks.new ≡ drop (length self.now.net.lines.now) marks.old }
     {
         let Pair { net, a, b } = *self;
+        // fixed room, since no call of an engine, a tree or a book allocates
         let mut work = [SiteWork::default(); MOST_SITES];
         E::flow(net.sites, net.lines, a, b, marks, &mut work).unwrap()
     }

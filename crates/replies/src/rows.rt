@@ -48,13 +48,9 @@ impl fmt::Display for Denial<'_> {
                 write!(f, ": byte {place}")
             }
             Fault::NoSuchSite(site) => write!(f, ": site {site}"),
-            Fault::TooFewRoutes(level, side) => {
+            Fault::TooFewRoutes(flow) => {
                 let row = SideRow {
-                    cut: Cut {
-                        level,
-                        side,
-                        size: side.count_ones(),
-                    },
+                    cut: flow.into(),
                     sites: self.sites,
                 };
                 write!(f, ": {row}")

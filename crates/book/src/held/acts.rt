@@ -121,11 +121,8 @@ impl<E: Engine> Book<E> {
         ensures { CutAsked self.now first second result }
     {
         let pair = self.places(first, second)?;
+        // fixed room, since no call allocates
         let flow = pair.flow::<E>(&mut [0; MOST_LINES]);
-        Ok(Cut {
-            level: flow.value,
-            side: flow.side,
-            size: flow.side.count_ones(),
-        })
+        Ok(flow.into())
     }
 }

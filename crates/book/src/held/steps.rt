@@ -174,10 +174,11 @@ fn choose<E: Engine>(
     requires { k ≤ 512 }
     ensures { Chosen pair.now.net.sites pair.now.net.lines.now pair.now.a pair.now.b k list.new result }
 {
+    // fixed room, since no call allocates
     let mut marks = [0u8; MOST_LINES];
     let flow = pair.flow::<E>(&mut marks);
     if flow.value < k {
-        return Err(Fault::TooFewRoutes(flow.value, flow.side));
+        return Err(Fault::TooFewRoutes(flow));
     }
     let marking = Marking {
         sites: pair.net.sites,

@@ -4,7 +4,7 @@ use Rattle.cases.proofs.Following.{three_accepted, three_held}
 use Rattle.cases.proofs.calls.once_open.Goals as goal
 
 pub with_three-requires : goal.with_three-requires
-with_three-requires g c = three_held c.args.book.now c.want_three.new.book c.in_ok-ticket.ticket c.requires c.in_ok-ticket.ensures.booked
+with_three-requires g c = three_held c.args.book.now c.want.new.book c.in_ok-ticket.ticket c.requires c.in_ok-ticket.ensures.booked
 
 pub returns-in_err-ticket : goal.returns-in_err-ticket
 returns-in_err-ticket g c =

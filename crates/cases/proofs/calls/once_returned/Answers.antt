@@ -9,9 +9,9 @@ pub unreachable-requires : goal.unreachable-requires
 unreachable-requires g c = true≢false (four_refused c.args.book.now (Ok c.in-Ok._ticket) c.requires c.in-Ok.ensures.lawful)
 
 pub shown_with-requires : goal.shown_with-requires
-shown_with-requires g c = only_few c.args.book.now c.want_four.new.book c.in-Err.fault c.requires c.in-Err.ensures.booked
+shown_with-requires g c = only_few c.args.book.now c.want.new.book c.in-Err.fault c.requires c.in-Err.ensures.booked
 
 pub returns : goal.returns
 returns g c =
-    four_shown c.args.book.now c.want_four.new.book c.shown_with.result.0 c.shown_with.result.1 c.requires
-    (subst (λ (f : Fault). Booked c.args.book.now 10 20 4 c.want_four.new.book (Err f)) c.shown_with.ensures c.in-Err.ensures.booked)
+    four_shown c.args.book.now c.want.new.book c.shown_with.result.value c.shown_with.result.side c.requires
+    (subst (λ (f : Fault). Booked c.args.book.now 10 20 4 c.want.new.book (Err f)) c.shown_with.ensures c.in-Err.ensures.booked)
