@@ -43,14 +43,7 @@ impl Pending {
         ensures { Split (part self.now.available self.now.source) t side (part result.0.available result.0.source) (part result.1.available result.1.source) }
     {
         let near = side::intersection(self.available, side);
-        let far = outside(self.available, side);
+        let far = side::difference(self.available, side);
         (Pending::new(near, self.source), Pending::new(far, t))
     }
-}
-
-/// The available places that are not in the side.
-fn outside(available: u64, side: u64) -> u64
-    ensures { (x : ℕ) → member result x ≡ (member available x && not (member side x)) }
-{
-    available & !side
 }

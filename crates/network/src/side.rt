@@ -2,7 +2,7 @@
 
 mod digits;
 
-ghost use Rattle.std.specs.Prelude.{◌≡◌, ℕ, ◌-◌, ◌^◌, ◌<◌, min, true, false, not, ◌&&◌, ◌||◌, MatchOption, ◌==◌, bit_and, bit_or, nat_lt};
+ghost use Rattle.std.specs.Prelude.{◌≡◌, ℕ, ◌-◌, ◌^◌, ◌<◌, ◌≤◌, min, true, false, not, ◌&&◌, ◌||◌, MatchOption, ◌==◌, bit_and, bit_or, nat_lt};
 ghost use Rattle.network.specs.Sides.{member, size_below};
 
 /// Whether the place is in the side; none from 64 on is.
@@ -24,7 +24,7 @@ pub fn insert(side: u64, place: usize) -> u64
 pub fn remove(side: u64, place: usize) -> u64
     ensures { (i : ℕ) → member result i ≡ (member side i && not (i == place)) }
 {
-    digits::without(side, alone(place))
+    difference(side, alone(place))
 }
 
 // The side of one place; a place from 64 on is in no side.
@@ -51,6 +51,14 @@ pub fn intersection(side: u64, other: u64) -> u64
     digits::both(side, other)
 }
 
+/// The places of the side that the other lacks.
+pub fn difference(side: u64, other: u64) -> u64
+    ensures places { (i : ℕ) → member result i ≡ (member side i && not (member other i)) }
+    ensures within { result ≤ side }
+{
+    digits::without(side, other)
+}
+
 /// All places of a network of so many sites, of the 64.
 pub fn all_below(sites: usize) -> u64
     ensures bits { result ≡ 2 ^ min sites 64 - 1 }
@@ -65,7 +73,7 @@ pub fn complement(side: u64, sites: usize) -> u64
     ensures places { (i : ℕ) → member result i ≡ (nat_lt i (min sites 64) && not (member side i)) }
     ensures within { result < 2 ^ min sites 64 }
 {
-    digits::without(all_below(sites), side)
+    difference(all_below(sites), side)
 }
 
 /// How many places the side has.

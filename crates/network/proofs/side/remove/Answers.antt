@@ -1,9 +1,9 @@
 use Rattle.std.proofs.Common.{not, ◌&&◌, ap, ◌∙◌, arith}
 use Rattle.network.specs.Sides.{member}
-use Rattle.network.proofs.Digits.{member_without, without_alone}
+use Rattle.network.proofs.Digits.{without_alone}
 use Rattle.network.proofs.side.remove.Goals as goal
 
 pub returns : goal.returns
 returns c i =
-    ap (λ r. member r i) c.without.ensures ∙ member_without c.args.side c.alone.result i (omega arith) (omega arith)
-    ∙ ap (λ t. member c.args.side i && not t) (c.alone.ensures.places i) ∙ without_alone c.args.side c.args.place i (omega arith)
+    c.difference.ensures.places i ∙ ap (λ t. member c.args.side i && not t) (c.alone.ensures.places i)
+    ∙ without_alone c.args.side c.args.place i (omega arith)
