@@ -9,14 +9,16 @@ use Rattle.std.proofs.Math.Nat.{zero-add}
 use Rattle.std.proofs.lemmas.List.Sums.{sum_by-cons}
 use Rattle.std.proofs.lemmas.Bool.Decides.{nat_tests}
 use Rattle.network.specs.declared.line.Line.{Line}
+use Rattle.network.specs.declared.pair.Pair.{Pair}
 use Rattle.network.specs.Lines.{no_line, line_at, AllJoin}
 use Rattle.network.specs.Flow.{sum_marked, leaves, arrives, outs, ins, Balanced, Marked, AllMarked}
 use Rattle.network.proofs.Sums.{sum_marked_zero, outs_le}
 use Rattle.routes.specs.declared.arcs.End.{End}
 use Rattle.routes.specs.declared.arcs.End.TheVariants.{From, To}
+use Rattle.routes.specs.declared.marking.Marking.{Marking}
 use Rattle.routes.specs.Ends.{counts_at, carried_at}
-use Rattle.routes.specs.Shapes.{Shaped, BalancedAt}
-use Rattle.routes.specs.Taking.{Fit}
+use Rattle.routes.specs.Shapes.{PairOf, Ready, Sized, BalancedAt}
+use Rattle.routes.specs.Taking.{Fit, FitBy}
 
 at_most_one : (e : End) (q : ℕ) (l : Line) (m : ℕ) → counts_at e (eqb q) l m ≤ 1
 at_most_one From q l m = grind (arith, nat_tests)
@@ -112,16 +114,40 @@ pub value_le : (ls : List Line) (ms : List ℕ) (a b v : ℕ) → a ≢ b → Ba
 value_le ls ms a b v ne h =
     omega (arith, h a, outs_le (eqb a) ls ms, cond-true (eqb a a) v 0 (eq-eqb a a refl), cond-false (eqb a b) v 0 (ne_eqb a b ne))
 
--- a fit call is shaped so
-pub fit_shaped : (n : ℕ) (ls : List Line) (ms : List ℕ) (a b v k : ℕ) → Fit n ls ms a b v k → Shaped n ls ms a b v k
-fit_shaped n ls ms a b v k h =
-    record {
-      few_sites = h.few_sites;
-      few_lines = h.few_lines;
-      marks_room = h.marks_room;
-      a_within = h.a_within;
-      b_within = h.b_within;
-      apart = h.apart;
-      enough = h.enough;
-      small = value_le ls ms a b v h.apart h.carried.balanced;
-    }
+-- ready marks are sized so
+pub ready_sized : (q : Pair) (ms : List ℕ) (v k : ℕ) → Ready q ms v k → Sized q.net.lines.now ms v k
+ready_sized q ms v k h =
+    record { marks_room = h.marks_room; enough = h.enough; small = value_le q.net.lines.now ms q.a q.b v q.apart h.carried.balanced }
+
+module _ (m : Marking) (q : Pair) (of : PairOf m q) where
+  -- what is said of the pair is said of the marking's places
+  pub of_pair : (P : ℕ → List Line → ℕ → ℕ → Type 0) → P q.net.sites q.net.lines.now q.a q.b → P m.sites m.lines.now m.a m.b
+  of_pair P p =
+      subst (λ n. P n m.lines.now m.a m.b) of.sites
+      (subst (λ ls. P q.net.sites ls m.a m.b) of.lines
+      (subst (λ a. P q.net.sites q.net.lines.now a m.b) of.first
+      (subst (λ b. P q.net.sites q.net.lines.now q.a b) of.second p)))
+
+  to_pair : (P : ℕ → List Line → ℕ → ℕ → Type 0) → P m.sites m.lines.now m.a m.b → P q.net.sites q.net.lines.now q.a q.b
+  to_pair P = of_pair (λ n ls a b. P n ls a b → P q.net.sites q.net.lines.now q.a q.b) (λ p. p)
+
+  -- a call is fit where the marks are ready for its pair
+  pub ready_fit : (k : ℕ) → Ready q m.marks.now m.value k → FitBy m k
+  ready_fit k h =
+      of_pair (λ n ls a b. Fit n ls m.marks.now a b m.value k)
+      record {
+        few_sites = q.net.few_sites;
+        few_lines = q.net.few_lines;
+        apart = q.apart;
+        a_within = q.a_within;
+        b_within = q.b_within;
+        joined = q.net.joined;
+        marks_room = h.marks_room;
+        carried = h.carried;
+        enough = h.enough;
+      }
+
+  pub fit_ready : (k : ℕ) → FitBy m k → Ready q m.marks.now m.value k
+  fit_ready k h =
+      let fit = to_pair (λ n ls a b. Fit n ls m.marks.now a b m.value k) h in
+      record { marks_room = fit.marks_room; carried = fit.carried; enough = fit.enough }

@@ -3,12 +3,16 @@ use Rattle.std.proofs.Common.{◌≡◌, ℕ, ◌<◌, ◌≤◌, true, not, eqb
 use Rattle.std.proofs.lemmas.Bool.{cases_lt, cases_Bool, both_ways}
 use Rattle.std.proofs.lemmas.List.{length-take, length-drop, take-append-drop, get_or-take, get_or_past}
 use Rattle.network.specs.declared.line.Line.{Line}
+use Rattle.network.specs.declared.pair.Pair.{Pair}
 use Rattle.network.specs.Routes.{free_at}
 use Rattle.network.specs.Flow.{mark_at, outs, ins, Balanced, AllMarked}
 use Rattle.network.proofs.Sums.{outs_front, ins_front}
-use Rattle.routes.specs.Taking.{Fit, carrying, listed, Chosen, Taken}
+use Rattle.routes.specs.declared.marking.Marking.{Marking}
+use Rattle.routes.specs.Taking.{carrying, listed, Chosen, TakenBy}
+use Rattle.routes.specs.Shapes.{PairOf, Ready}
 use Rattle.routes.specs.Walks.{picked}
 use Rattle.routes.specs.Draws.{Drawn}
+use Rattle.routes.proofs.Balances.{of_pair, ready_fit}
 use Rattle.routes.proofs.Drawing.{all_weaker, picked_was}
 
 -- the marks of the lines are as good as all marks
@@ -55,9 +59,16 @@ module _ (ls : List Line) (ms : List ℕ) (m : ℕ) (same : m ≡ length ls) (ro
       }
 
 -- what is written, or not
-pub taken : (n : ℕ) (ls : List Line) (ms : List ℕ) (a b v k : ℕ) (rs : List (List ℕ)) (xs xs' numbers : List ℕ) (r : Option ℕ)
-    → Fit n ls ms a b v k → Chosen ls ms a b k rs → numbers ≡ listed rs
+pub taken : (m : Marking) (q : Pair) (k : ℕ) (rs : List (List ℕ)) (xs xs' numbers : List ℕ) (r : Option ℕ)
+    → PairOf m q → Ready q m.marks.now m.value k → Chosen q.net.lines.now m.marks.now q.a q.b k rs → numbers ≡ listed rs
     → MatchOption r ((length xs < length numbers) × (xs' ≡ xs)) (λ w. (w ≡ length numbers) × (xs' ≡ numbers ++ drop w xs))
-    → Taken n ls ms a b v k xs xs' r
-taken n ls ms a b v k rs xs xs' numbers (Some w) fit chosen e h = (fit, (rs, chosen, h.0 ∙ ap length e, h.1 ∙ ap (λ ys. ys ++ drop w xs) e))
-taken n ls ms a b v k rs xs xs' numbers None fit chosen e h = (h.1, λ _. (rs, chosen, omega (arith, h.0, ap length e)))
+    → TakenBy m k xs xs' r
+taken m q k rs xs xs' numbers r of ready chosen e h = told r h
+  where
+    here : Chosen m.lines.now m.marks.now m.a m.b k rs
+    here = of_pair m q of (λ _ ls a b. Chosen ls m.marks.now a b k rs) chosen
+
+    told : (r : Option ℕ) → MatchOption r ((length xs < length numbers) × (xs' ≡ xs)) (λ w. (w ≡ length numbers) × (xs' ≡ numbers ++ drop w xs))
+        → TakenBy m k xs xs' r
+    told (Some w) h = (ready_fit m q of k ready, (rs, here, h.0 ∙ ap length e, h.1 ∙ ap (λ ys. ys ++ drop w xs) e))
+    told None h = (h.1, λ _. (rs, here, omega (arith, h.0, ap length e)))

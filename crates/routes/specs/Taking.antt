@@ -6,6 +6,7 @@ use Rattle.network.specs.Lists.{every}
 use Rattle.network.specs.Routes.{FreeRoutes, written}
 use Rattle.network.specs.Flow.{mark_at}
 use Rattle.network.specs.Answers.{Carries}
+use Rattle.routes.specs.declared.marking.Marking.{Marking}
 
 -- a call that is taken: the marks carry v from a to b, and no more than v routes are wanted
 pub record Fit (n : ℕ) (ls : List Line) (ms : List ℕ) (a b v k : ℕ) : Type 0 where
@@ -18,6 +19,10 @@ pub record Fit (n : ℕ) (ls : List Line) (ms : List ℕ) (a b v k : ℕ) : Type
   pub marks_room : length ls ≤ length ms
   pub carried : Carries ls ms a b v
   pub enough : k ≤ v
+
+-- .. as a marking makes it
+abbrev pub FitBy : Marking → ℕ → Type 0
+FitBy m k = Fit m.sites m.lines.now m.marks.now m.a m.b m.value k
 
 -- the line at the position p carries
 abbrev pub carrying : List ℕ → ℕ → Bool
@@ -41,3 +46,7 @@ Taken n ls ms a b v k xs xs' (Some w) =
     Fit n ls ms a b v k × ((rs : List (List ℕ)) × Chosen ls ms a b k rs × (w ≡ length (listed rs)) × (xs' ≡ listed rs ++ drop w xs))
 Taken n ls ms a b v k xs xs' None =
     (xs' ≡ xs) × (Fit n ls ms a b v k → (rs : List (List ℕ)) × Chosen ls ms a b k rs × (length xs < length (listed rs)))
+
+-- .. to the call that a marking makes
+abbrev pub TakenBy : Marking → ℕ → List ℕ → List ℕ → Option ℕ → Type 0
+TakenBy m k xs xs' r = Taken m.sites m.lines.now m.marks.now m.a m.b m.value k xs xs' r

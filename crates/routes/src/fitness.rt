@@ -1,78 +1,86 @@
 //! Whether marks carry a value from one place to another.
 
-ghost use Rattle.std.specs.Prelude.{◌≡◌, ◌<◌, ◌≤◌, ◌↔◌, length, IsTrue, IfSome, IfNone};
+ghost use Rattle.std.specs.Prelude.{◌≡◌, ℕ, ◌<◌, ◌≤◌, ◌↔◌, length, IsTrue, IfSome, IfNone, ◌≢◌};
 ghost use Rattle.network.specs.Flow.{Balanced, Marked, AllMarked};
-ghost use Rattle.routes.specs.Taking.{Fit};
-ghost use Rattle.routes.specs.Shapes.{Shaped, BalancedAt};
+ghost use Rattle.routes.specs.Taking.{FitBy};
+ghost use Rattle.routes.specs.Shapes.{PairOf, Ready, Sized, BalancedAt};
 
 use crate::arcs::{End, carried_at};
 use crate::marking::Marking;
-use network::{Line, Network};
+use network::{Line, Network, Pair};
 
 impl<'a> Marking<'a> {
-    /// The network of these sites and lines, where the marks carry `value` from `a` to `b` and `k` is no more, so that
-    /// routes can be taken.
-    pub(crate) fn fit_network(&self, k: usize) -> Option<Network<'a>>
-        ensures of { IfSome result (λ n. (n.sites ≡ self.now.sites) × (n.lines.now ≡ self.now.lines.now)) }
-        ensures fit { IfSome result (λ n. Fit self.now.sites self.now.lines.now self.now.marks.now self.now.a self.now.b self.now.value k) }
-        ensures none { IfNone result (Fit self.now.sites self.now.lines.now self.now.marks.now self.now.a self.now.b self.now.value k → ⊥) }
+    /// The two places, where the marks carry `value` from `a` to `b` and `k` is no more, so that routes can be taken.
+    pub(crate) fn fit_pair(&self, k: usize) -> Option<Pair<'a>>
+        ensures of { IfSome result (λ q. PairOf self.now q) }
+        ensures ready { IfSome result (λ q. Ready q self.now.marks.now self.now.value k) }
+        ensures none { IfNone result (FitBy self.now k → ⊥) }
     {
-        let net = Network::new(self.sites, self.lines)?;
-        if self.is_fit(&net, k) {
-            Some(net)
+        let pair = self.pair()?;
+        if self.is_ready(&pair, k) {
+            Some(pair)
         } else {
             None
         }
     }
 
-    /// Whether the marks carry `value` from `a` to `b` over the lines of the network, and `k` is no more.
-    fn is_fit(&self, net: &Network<'_>, k: usize) -> bool
-        ensures { IsTrue result ↔ Fit net.now.sites net.now.lines.now self.now.marks.now self.now.a self.now.b self.now.value k }
+    /// The two places of the network, where it is one and they are two of its places.
+    fn pair(&self) -> Option<Pair<'a>>
+        ensures of { IfSome result (λ q. PairOf self.now q) }
+        ensures none { IfNone result ((k : ℕ) → FitBy self.now k → ⊥) }
     {
-        self.is_shaped(net, k) && self.all_marked(net) && self.all_balance(net)
+        let (a, b) = (self.a, self.b);
+        let net = Network::new(self.sites, self.lines)?;
+        if a != b && a < net.sites && b < net.sites {
+            Some(Pair { net, a, b })
+        } else {
+            None
+        }
     }
 
-    /// What can be said of the call without a look at the marks.
-    fn is_shaped(&self, net: &Network<'_>, k: usize) -> bool
-        ensures { IsTrue result ↔ Shaped net.now.sites net.now.lines.now self.now.marks.now self.now.a self.now.b self.now.value k }
+    /// Whether the marks carry `value` between the two places, and `k` is no more.
+    fn is_ready(&self, pair: &Pair<'_>, k: usize) -> bool
+        ensures { IsTrue result ↔ Ready pair.now self.now.marks.now self.now.value k }
     {
-        net.lines.len() <= self.marks.len()
-            && self.a < net.sites
-            && self.b < net.sites
-            && self.a != self.b
-            && k <= self.value
-            && self.value <= net.lines.len()
+        self.is_sized(pair.net.lines, k)
+            && self.all_marked(pair.net.lines)
+            && self.all_balance(pair)
+    }
+
+    /// What can be said of the marks without a look at them.
+    fn is_sized(&self, lines: &[Line], k: usize) -> bool
+        ensures { IsTrue result ↔ Sized lines.now self.now.marks.now self.now.value k }
+    {
+        lines.len() <= self.marks.len() && k <= self.value && self.value <= lines.len()
     }
 
     /// Whether each line has a mark that it may have.
-    fn all_marked(&self, net: &Network<'_>) -> bool
-        ensures { IsTrue result ↔ AllMarked net.now.lines.now self.now.marks.now }
+    fn all_marked(&self, lines: &[Line]) -> bool
+        ensures { IsTrue result ↔ AllMarked lines.now self.now.marks.now }
     {
-        net.lines
+        lines
             .iter()
             .zip(self.marks)
             .all(|(line, mark)| may_have(line, *mark))
     }
 
-    /// Whether each place has the balance that it has where `value` goes from `a` to `b`.
-    fn all_balance(&self, net: &Network<'_>) -> bool
-        requires small { self.now.value ≤ length net.now.lines.now }
-        requires a_within { self.now.a < net.now.sites }
-        requires b_within { self.now.b < net.now.sites }
-        ensures { IsTrue result ↔ Balanced net.now.lines.now self.now.marks.now self.now.a self.now.b self.now.value }
+    /// Whether each place has the balance that it has where `value` goes between the two places.
+    fn all_balance(&self, pair: &Pair<'_>) -> bool
+        requires { self.now.value ≤ length pair.now.net.lines.now }
+        ensures { IsTrue result ↔ Balanced pair.now.net.lines.now self.now.marks.now pair.now.a pair.now.b self.now.value }
     {
-        (0..net.sites).all(|place| self.balances(net, place))
+        (0..pair.net.sites).all(|place| self.balances(pair, place))
     }
 
-    /// Whether what leaves the place and what comes to it differ as they do where `value` goes from `a` to `b`.
-    fn balances(&self, net: &Network<'_>, place: usize) -> bool
-        requires { self.now.value ≤ length net.now.lines.now }
-        ensures { IsTrue result ↔ BalancedAt net.now.lines.now self.now.marks.now self.now.a self.now.b self.now.value place }
+    /// Whether what leaves the place and what comes to it differ as they do where `value` goes between the two places.
+    fn balances(&self, pair: &Pair<'_>, place: usize) -> bool
+        requires { self.now.value ≤ length pair.now.net.lines.now }
+        ensures { IsTrue result ↔ BalancedAt pair.now.net.lines.now self.now.marks.now pair.now.a pair.now.b self.now.value place }
     {
-        let leaving = carried_at(End::From, net.lines, self.marks, place);
-        let arriving = carried_at(End::To, net.lines, self.marks, place);
-        let ended = if place == self.b { self.value } else { 0 };
-        let begun = if place == self.a { self.value } else { 0 };
+        let leaving = carried_at(End::From, pair.net.lines, self.marks, place);
+        let arriving = carried_at(End::To, pair.net.lines, self.marks, place);
+        let ended = if place == pair.b { self.value } else { 0 };
+        let begun = if place == pair.a { self.value } else { 0 };
         leaving + ended == arriving + begun
     }
 }

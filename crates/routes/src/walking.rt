@@ -8,7 +8,7 @@ ghost use Rattle.network.specs.Flow.{mark_at, arrives, ins, Balanced};
 ghost use Rattle.routes.specs.Walks.{carriers, Way, Back};
 
 use crate::arcs::{End, carries_at, far_end};
-use network::{Line, Network};
+use network::{Line, Network, Pair};
 
 /// A line that carries to the place, where there is one.
 fn arriving(lines: &[Line], left: &[u8], place: usize) -> usize
@@ -75,21 +75,21 @@ fn take_out(left: &mut [u8], line: usize)
     left[line] = 0;
 }
 
-/// Takes one route from `a` to `b` out of the lines that still carry. It stands in `path` from the answered place on: the
+/// Takes one route between the two places out of the lines that still carry. It stands in `path` from the answered place on: the
 /// path is lent, since no route is allocated, and fills from its end.
-pub fn walk(net: &Network<'_>, left: &mut [u8], a: usize, b: usize, path: &mut [u16]) -> usize
-    requires room { length net.now.lines.now ≤ length left.old }
-    requires space { carriers net.now.lines.now left.old ≤ length path.old }
-    requires flows { (v : ℕ) × Balanced net.now.lines.now left.old a b (suc v) }
-    ensures { Back net.now.lines.now left.old left.new a b a path.new result }
+pub fn walk(pair: &Pair<'_>, left: &mut [u8], path: &mut [u16]) -> usize
+    requires room { length pair.now.net.lines.now ≤ length left.old }
+    requires space { carriers pair.now.net.lines.now left.old ≤ length path.old }
+    requires flows { (v : ℕ) × Balanced pair.now.net.lines.now left.old pair.now.a pair.now.b (suc v) }
+    ensures { Back pair.now.net.lines.now left.old left.new pair.now.a pair.now.b pair.now.a path.new result }
 {
     let mut top = path.len();
-    let mut place = b;
-    'back: while place != a {
-        let line = arriving(net.lines, left, place);
-        let before = far_end(&net.lines[line], place);
+    let mut place = pair.b;
+    'back: while place != pair.a {
+        let line = arriving(pair.net.lines, left, place);
+        let before = far_end(&pair.net.lines[line], place);
         take_out(left, line);
-        top = extend(net, path, top, place, line, before);
+        top = extend(&pair.net, path, top, place, line, before);
         place = before;
     }
     top

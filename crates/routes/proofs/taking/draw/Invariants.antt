@@ -5,5 +5,5 @@ use Rattle.routes.proofs.taking.draw.Given as goal
 
 abbrev pub invariant-loop-done : goal.invariant-loop-done
 invariant-loop-done l =
-    ((rs : List (List ℕ)) × Drawn l.net.lines.now l.initial.left l.left l.a l.b l._done rs l.store l.top)
-    × ((v : ℕ) × (l.k ≤ l._done + v) × Balanced l.net.lines.now l.left l.a l.b v)
+    ((rs : List (List ℕ)) × Drawn l.pair.net.lines.now l.initial.left l.left l.pair.a l.pair.b l._done rs l.store l.top)
+    × ((v : ℕ) × (l.k ≤ l._done + v) × Balanced l.pair.net.lines.now l.left l.pair.a l.pair.b v)

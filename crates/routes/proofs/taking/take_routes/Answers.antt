@@ -1,9 +1,10 @@
-use Rattle.std.proofs.Common.{length, ap, arith}
-use Rattle.routes.proofs.Balances.{value_le}
+use Rattle.std.proofs.Common.{arith}
+use Rattle.routes.proofs.Balances.{ready_sized}
 use Rattle.routes.proofs.taking.take_routes.Goals as goal
 
 pub choose-top-requires-clause-space : goal.choose-top-requires-clause-space
 choose-top-requires-clause-space c =
     let m = c.args.marking.now in
-    let fit = c.in_ok-net.ensures.fit in
-    omega (arith, fit.enough, fit.few_lines, ap length c.in_ok-net.ensures.of.1, value_le m.lines.now m.marks.now m.a m.b m.value fit.apart fit.carried.balanced)
+    let pair = c.in_ok-pair.pair in
+    let sized = ready_sized pair m.marks.now m.value c.args.k c.in_ok-pair.ensures.ready in
+    omega (arith, sized.enough, sized.small, pair.net.few_lines)

@@ -7,8 +7,9 @@ use Rattle.routes.proofs.marking.Marking.all_balance.Goals as goal
 
 pub returns : goal.returns
 returns c =
-    let net = c.args.net.now in
+    let pair = c.args.pair.now in
+    let net = pair.net in
     let m = c.args.self.now in
-    balanced_decided net.sites net.lines.now m.marks.now m.a m.b m.value net.joined c.requires.a_within c.requires.b_within c.all.result
-    (cases_from_all _ _ c.all.result (BalancedAt net.lines.now m.marks.now m.a m.b m.value) (λ p. BalancedAt net.lines.now m.marks.now m.a m.b m.value p → ⊥)
+    balanced_decided net.sites net.lines.now m.marks.now pair.a pair.b m.value net.joined pair.a_within pair.b_within c.all.result
+    (cases_from_all _ _ c.all.result (BalancedAt net.lines.now m.marks.now pair.a pair.b m.value) (λ p. BalancedAt net.lines.now m.marks.now pair.a pair.b m.value p → ⊥)
     c.all.ensures.ran (YieldsList-from_range 0 net.sites net.sites refl (search rules)) (λ x q k. search (rules, tests)) (λ x q k. search (rules, tests)))
