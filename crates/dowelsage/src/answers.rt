@@ -1,10 +1,7 @@
 //! What each command is answered.
 
 use crate::command::Command;
-use crate::opening::open_file;
-use crate::reply::reply;
-use crate::showing::show;
-use desk::Desk;
+use crate::session::Session;
 use network::Engine;
 use replies::{LineRow, SideRow, SiteRow};
 use std::fmt;
@@ -21,50 +18,6 @@ sites             every site, by place
 lines             every line, by place in the file
 help              this text
 quit              leave; what still stands is released";
-
-fn take_booking<E: Engine>(
-    rt: &HostRuntime,
-    desk: &mut Desk<E>,
-    first: u16,
-    second: u16,
-    k: u32,
-) -> anyhow::Result<()> {
-    let booked = desk.book_routes(first, second, k);
-    let desk = &*desk;
-    reply(rt, desk, booked, |number| show(rt, desk, number, "booked"))
-}
-
-fn release<E: Engine>(rt: &HostRuntime, desk: &mut Desk<E>, number: u16) -> anyhow::Result<()> {
-    if desk.release(number) {
-        println!(rt; "released {number}")?;
-    } else {
-        println!(rt; "no ticket {number}")?;
-    }
-    Ok(())
-}
-
-fn print_level<E>(rt: &HostRuntime, desk: &Desk<E>, first: u16, second: u16) -> anyhow::Result<()> {
-    reply(rt, desk, desk.book().level(first, second), |level| {
-        println!(rt; "level {level}")?;
-        Ok(())
-    })
-}
-
-fn print_cut<E: Engine>(
-    rt: &HostRuntime,
-    desk: &Desk<E>,
-    first: u16,
-    second: u16,
-) -> anyhow::Result<()> {
-    reply(rt, desk, desk.book().cut(first, second), |cut| {
-        let row = SideRow {
-            cut,
-            sites: desk.book().sites(),
-        };
-        println!(rt; "{row}")?;
-        Ok(())
-    })
-}
 
 // The number of groups, and by place the first site of each site's group.
 #[derive(Clone, Copy)]
@@ -84,54 +37,88 @@ impl fmt::Display for GroupsRow<'_> {
     }
 }
 
-fn print_groups<E>(rt: &HostRuntime, desk: &Desk<E>, k: u32) -> anyhow::Result<()> {
-    let mut list = [0u16; 64];
-    let groups = desk.book().groups(k, &mut list);
-    reply(rt, desk, groups, |groups| {
-        let firsts = list.get(..desk.book().sites().len()).unwrap_or_default();
-        let row = GroupsRow { groups, firsts };
-        println!(rt; "{row}")?;
+impl<E> Session<'_, E> {
+    fn print_level(&self, first: u16, second: u16) -> anyhow::Result<()> {
+        self.reply(self.desk.book().level(first, second), |level| {
+            println!(self.rt; "level {level}")?;
+            Ok(())
+        })
+    }
+
+    fn print_groups(&self, k: u32) -> anyhow::Result<()> {
+        let mut list = [0u16; 64];
+        let groups = self.desk.book().groups(k, &mut list);
+        self.reply(groups, |groups| {
+            let firsts = list
+                .get(..self.desk.book().sites().len())
+                .unwrap_or_default();
+            let row = GroupsRow { groups, firsts };
+            println!(self.rt; "{row}")?;
+            Ok(())
+        })
+    }
+
+    fn print_sites(&self) -> anyhow::Result<()> {
+        for site in self.desk.book().sites() {
+            let row = SiteRow(*site);
+            println!(self.rt; "{row}")?;
+        }
         Ok(())
-    })
+    }
+
+    fn print_lines(&self) -> anyhow::Result<()> {
+        for line in self.desk.book().lines() {
+            let row = LineRow {
+                line: *line,
+                sites: self.desk.book().sites(),
+            };
+            println!(self.rt; "{row}")?;
+        }
+        Ok(())
+    }
 }
 
-fn print_sites<E>(rt: &HostRuntime, desk: &Desk<E>) -> anyhow::Result<()> {
-    for site in desk.book().sites() {
-        let row = SiteRow(*site);
-        println!(rt; "{row}")?;
+impl<E: Engine> Session<'_, E> {
+    fn take_booking(&mut self, first: u16, second: u16, k: u32) -> anyhow::Result<()> {
+        let booked = self.desk.book_routes(first, second, k);
+        self.reply(booked, |number| self.show(number, "booked"))
     }
-    Ok(())
-}
 
-fn print_lines<E>(rt: &HostRuntime, desk: &Desk<E>) -> anyhow::Result<()> {
-    for line in desk.book().lines() {
-        let row = LineRow {
-            line: *line,
-            sites: desk.book().sites(),
-        };
-        println!(rt; "{row}")?;
+    fn release(&mut self, number: u16) -> anyhow::Result<()> {
+        if self.desk.release(number) {
+            println!(self.rt; "released {number}")?;
+        } else {
+            println!(self.rt; "no ticket {number}")?;
+        }
+        Ok(())
     }
-    Ok(())
-}
 
-/// Answers one command; a break where the planner is done.
-pub fn answer<E: Engine>(
-    rt: &HostRuntime,
-    desk: &mut Desk<E>,
-    command: Command<'_>,
-) -> anyhow::Result<ControlFlow<()>> {
-    match command {
-        Command::Open(path, mark) => open_file(rt, desk, path, mark)?,
-        Command::Book(first, second, k) => take_booking(rt, desk, first, second, k)?,
-        Command::Show(number) => show(rt, desk, number, "booking")?,
-        Command::Release(number) => release(rt, desk, number)?,
-        Command::Level(first, second) => print_level(rt, desk, first, second)?,
-        Command::Cut(first, second) => print_cut(rt, desk, first, second)?,
-        Command::Groups(k) => print_groups(rt, desk, k)?,
-        Command::Sites => print_sites(rt, desk)?,
-        Command::Lines => print_lines(rt, desk)?,
-        Command::Help => println!(rt; "{HELP}")?,
-        Command::Quit => return Ok(ControlFlow::Break(())),
+    fn print_cut(&self, first: u16, second: u16) -> anyhow::Result<()> {
+        self.reply(self.desk.book().cut(first, second), |cut| {
+            let row = SideRow {
+                cut,
+                sites: self.desk.book().sites(),
+            };
+            println!(self.rt; "{row}")?;
+            Ok(())
+        })
     }
-    Ok(ControlFlow::Continue(()))
+
+    /// Answers one command; a break where the planner is done.
+    pub fn answer(&mut self, command: Command<'_>) -> anyhow::Result<ControlFlow<()>> {
+        match command {
+            Command::Open(path, mark) => self.open_file(path, mark)?,
+            Command::Book(first, second, k) => self.take_booking(first, second, k)?,
+            Command::Show(number) => self.show(number, "booking")?,
+            Command::Release(number) => self.release(number)?,
+            Command::Level(first, second) => self.print_level(first, second)?,
+            Command::Cut(first, second) => self.print_cut(first, second)?,
+            Command::Groups(k) => self.print_groups(k)?,
+            Command::Sites => self.print_sites()?,
+            Command::Lines => self.print_lines()?,
+            Command::Help => println!(self.rt; "{HELP}")?,
+            Command::Quit => return Ok(ControlFlow::Break(())),
+        }
+        Ok(ControlFlow::Continue(()))
+    }
 }

@@ -6,29 +6,24 @@ mod line;
 mod opening;
 mod options;
 mod reply;
+mod serving;
 mod session;
 mod showing;
 
 use desk::Desk;
 use engines::{Push, ShortestRoute};
 use network::Engine;
-use opening::open_at_start;
 use options::{Method, read_options};
-use session::{release_all, serve};
-
-// Opens the file that was named, if one was, and answers the input.
-fn work<E: Engine>(rt: &HostRuntime, desk: &mut Desk<E>, file: Option<&str>) -> anyhow::Result<()> {
-    if let Some(path) = file {
-        open_at_start(rt, desk, path)?;
-    }
-    serve(rt, desk)?;
-    release_all(rt, desk)
-}
+use session::Session;
 
 // One session. Whatever comes, every booking that still stands is released at its end.
 fn run<E: Engine>(rt: &HostRuntime, file: Option<&str>) -> anyhow::Result<()> {
     let mut desk: Desk<E> = Desk::new(rt.alloc())?;
-    let ended = work(rt, &mut desk, file);
+    let mut session = Session {
+        rt,
+        desk: &mut desk,
+    };
+    let ended = session.work(file);
     desk.close();
     ended
 }

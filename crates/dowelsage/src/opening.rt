@@ -1,9 +1,8 @@
 //! Network files, read and opened on the book.
 
-use crate::reply::reply;
+use crate::session::Session;
 use anyhow::anyhow;
 use book::Fault;
-use desk::Desk;
 use network::Engine;
 use std::error::Error;
 use std::fs::File;
@@ -42,47 +41,38 @@ fn read_file<'a>(rt: &HostRuntime, path: &'a str) -> Result<Vec<u8>, Unreadable<
     read_bytes(rt, path).map_err(|cause| Unreadable { path, cause })
 }
 
-// Says what the book answered to a file's bytes.
-fn reply_opened<E>(
-    rt: &HostRuntime,
-    desk: &Desk<E>,
-    opened: Result<(), Fault>,
-) -> anyhow::Result<()> {
-    reply(rt, desk, opened, |()| {
-        let sites = desk.book().sites().len();
-        let lines = desk.book().lines().len();
-        println!(rt; "opened: {sites} sites, {lines} lines")?;
-        Ok(())
-    })
-}
-
-/// Opens the file that the command line names: without it there is nothing to do.
-pub fn open_at_start<E: Engine>(
-    rt: &HostRuntime,
-    desk: &mut Desk<E>,
-    path: &str,
-) -> anyhow::Result<()> {
-    let bytes = read_file(rt, path)?;
-    let opened = desk.open(&bytes, 0);
-    reply_opened(rt, desk, opened)?;
-    opened.map_err(|_| anyhow!("the network file was denied"))
-}
-
-/// A file that cannot be read is answered, and the program goes on.
-pub fn open_file<E: Engine>(
-    rt: &HostRuntime,
-    desk: &mut Desk<E>,
-    path: &str,
-    mark: u32,
-) -> anyhow::Result<()> {
-    match read_file(rt, path) {
-        Ok(bytes) => {
-            let opened = desk.open(&bytes, mark);
-            reply_opened(rt, desk, opened)
-        }
-        Err(unreadable) => {
-            println!(rt; "{unreadable}")?;
+impl<E> Session<'_, E> {
+    // Says what the book answered to a file's bytes.
+    fn reply_opened(&self, opened: Result<(), Fault>) -> anyhow::Result<()> {
+        self.reply(opened, |()| {
+            let sites = self.desk.book().sites().len();
+            let lines = self.desk.book().lines().len();
+            println!(self.rt; "opened: {sites} sites, {lines} lines")?;
             Ok(())
+        })
+    }
+}
+
+impl<E: Engine> Session<'_, E> {
+    /// Opens the file that the command line names: without it there is nothing to do.
+    pub fn open_at_start(&mut self, path: &str) -> anyhow::Result<()> {
+        let bytes = read_file(self.rt, path)?;
+        let opened = self.desk.open(&bytes, 0);
+        self.reply_opened(opened)?;
+        opened.map_err(|_| anyhow!("the network file was denied"))
+    }
+
+    /// A file that cannot be read is answered, and the program goes on.
+    pub fn open_file(&mut self, path: &str, mark: u32) -> anyhow::Result<()> {
+        match read_file(self.rt, path) {
+            Ok(bytes) => {
+                let opened = self.desk.open(&bytes, mark);
+                self.reply_opened(opened)
+            }
+            Err(unreadable) => {
+                println!(self.rt; "{unreadable}")?;
+                Ok(())
+            }
         }
     }
 }

@@ -1,27 +1,28 @@
 //! Replies to what may be denied.
 
+use crate::session::Session;
 use book::Fault;
-use desk::Desk;
 use replies::Denial;
 
-/// Prints what a call on the book answers: a reply of its own, or the denial.
-pub fn reply<E, T, F: FnOnce(T) -> anyhow::Result<()> + Drop>(
-    rt: &HostRuntime,
-    desk: &Desk<E>,
-    answered: Result<T, Fault>,
-    print: F,
-) -> anyhow::Result<()>
-    requires { F.IsAlwaysCallable print }
-{
-    match answered {
-        Ok(answer) => print(answer),
-        Err(fault) => {
-            let denial = Denial {
-                fault,
-                sites: desk.book().sites(),
-            };
-            println!(rt; "{denial}")?;
-            Ok(())
+impl<E> Session<'_, E> {
+    /// Prints what a call on the book answers: a reply of its own, or the denial.
+    pub fn reply<T, F: FnOnce(T) -> anyhow::Result<()> + Drop>(
+        &self,
+        answered: Result<T, Fault>,
+        print: F,
+    ) -> anyhow::Result<()>
+        requires { F.IsAlwaysCallable print }
+    {
+        match answered {
+            Ok(answer) => print(answer),
+            Err(fault) => {
+                let denial = Denial {
+                    fault,
+                    sites: self.desk.book().sites(),
+                };
+                println!(self.rt; "{denial}")?;
+                Ok(())
+            }
         }
     }
 }

@@ -1,42 +1,30 @@
-//! A session: the lines of the input, answered one by one, and its end.
+//! A session: what every command works on, from its beginning to its end.
 
-use crate::answers::answer;
-use crate::line::read_line;
 use desk::Desk;
 use network::Engine;
-use std::io::{BufRead, BufReader};
-use std::ops::ControlFlow;
 
-// Answers the bytes of one line; a break where the planner is done.
-fn answer_line<E: Engine>(
-    rt: &HostRuntime,
-    desk: &mut Desk<E>,
-    bytes: &[u8],
-) -> anyhow::Result<ControlFlow<()>> {
-    match read_line(bytes) {
-        Ok(Some(command)) => return answer(rt, desk, command),
-        Ok(None) => {}
-        Err(reason) => println!(rt; "{reason}")?,
-    }
-    Ok(ControlFlow::Continue(()))
+/// A desk, and where its replies are printed.
+#[derive(Drop)]
+pub struct Session<'a, E> {
+    pub rt: &'a HostRuntime,
+    pub desk: &'a mut Desk<E>,
 }
 
-/// Answers each line of the input until it ends or the planner quits.
-pub fn serve<E: Engine>(rt: &HostRuntime, desk: &mut Desk<E>) -> anyhow::Result<()> {
-    let input = BufReader::new(rt.alloc(), rt.stdin())?;
-    for bytes in input.split(rt.alloc(), b'\n') {
-        let bytes = bytes?;
-        if answer_line(rt, desk, &bytes)?.is_break() {
-            break;
+impl<E: Engine> Session<'_, E> {
+    /// Opens the file that was named, if one was, answers the input, and releases what still stands.
+    pub fn work(&mut self, file: Option<&str>) -> anyhow::Result<()> {
+        if let Some(path) = file {
+            self.open_at_start(path)?;
         }
+        self.serve()?;
+        self.release_all()
     }
-    Ok(())
-}
 
-/// Releases what still stands, and says so.
-pub fn release_all<E: Engine>(rt: &HostRuntime, desk: &mut Desk<E>) -> anyhow::Result<()> {
-    'release: while let Some(number) = desk.release_next() {
-        println!(rt; "released {number}")?;
+    // Releases what still stands, and says so.
+    fn release_all(&mut self) -> anyhow::Result<()> {
+        'release: while let Some(number) = self.desk.release_next() {
+            println!(self.rt; "released {number}")?;
+        }
+        Ok(())
     }
-    Ok(())
 }

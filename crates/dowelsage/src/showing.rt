@@ -4,29 +4,9 @@ ghost use Rattle.std.specs.Prelude.{◌≡◌, ℕ, List, length};
 ghost use Rattle.std.specs.Iterator.{Drains};
 ghost use Rattle.replies.specs.Listed.{HoldsRoutes};
 
-use crate::reply::reply;
-use desk::Desk;
+use crate::session::Session;
 use network::Engine;
 use replies::{RouteRow, Routes};
-
-// Prints the routes that a showing wrote.
-fn print_routes<E>(
-    rt: &HostRuntime,
-    desk: &Desk<E>,
-    first: u16,
-    shown: &[u16],
-) -> anyhow::Result<()> {
-    for numbers in Routes(shown) {
-        let row = RouteRow {
-            first,
-            numbers,
-            lines: desk.book().lines(),
-            sites: desk.book().sites(),
-        };
-        println!(rt; "{row}")?;
-    }
-    Ok(())
-}
 
 // How many routes a walk gives until its end.
 fn count_given(walk: Routes<'_>) -> usize
@@ -42,23 +22,36 @@ fn count_routes(shown: &[u16]) -> usize
     count_given(Routes(shown))
 }
 
-/// Shows a booking of the desk, under a heading.
-pub fn show<E: Engine>(
-    rt: &HostRuntime,
-    desk: &Desk<E>,
-    number: u16,
-    heading: &str,
-) -> anyhow::Result<()> {
-    let Some(pass) = desk.pass(number) else {
-        println!(rt; "no ticket {number}")?;
-        return Ok(());
-    };
-    let mut list = [0u16; 1024];
-    let written = desk.book().show(&pass.ticket, &mut list);
-    reply(rt, desk, written, |written| {
-        let shown = list.get(..written).unwrap_or_default();
-        let routes = count_routes(shown);
-        println!(rt; "{heading} {number}: {routes} routes")?;
-        print_routes(rt, desk, pass.first, shown)
-    })
+impl<E> Session<'_, E> {
+    // Prints the routes that a showing wrote.
+    fn print_routes(&self, first: u16, shown: &[u16]) -> anyhow::Result<()> {
+        for numbers in Routes(shown) {
+            let row = RouteRow {
+                first,
+                numbers,
+                lines: self.desk.book().lines(),
+                sites: self.desk.book().sites(),
+            };
+            println!(self.rt; "{row}")?;
+        }
+        Ok(())
+    }
+}
+
+impl<E: Engine> Session<'_, E> {
+    /// Shows a booking of the desk, under a heading.
+    pub fn show(&self, number: u16, heading: &str) -> anyhow::Result<()> {
+        let Some(pass) = self.desk.pass(number) else {
+            println!(self.rt; "no ticket {number}")?;
+            return Ok(());
+        };
+        let mut list = [0u16; 1024];
+        let written = self.desk.book().show(&pass.ticket, &mut list);
+        self.reply(written, |written| {
+            let shown = list.get(..written).unwrap_or_default();
+            let routes = count_routes(shown);
+            println!(self.rt; "{heading} {number}: {routes} routes")?;
+            self.print_routes(pass.first, shown)
+        })
+    }
 }

@@ -1,5 +1,0 @@
-use Rattle.std.proofs.Common.{vec_len}
-use Rattle.dowelsage.proofs.session.release_all.Given as goal
-
-abbrev pub decreases-release : goal.decreases-release
-decreases-release g l = vec_len l.desk.passes
