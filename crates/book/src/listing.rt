@@ -3,11 +3,6 @@
 ghost use Rattle.std.specs.Prelude.{◌≡◌};
 ghost use Rattle.book.specs.Listings.{Reads};
 
-use network::MOST_LINES;
-
-/// How long such a list gets: a count for each route, and no line twice.
-pub(crate) const MOST_LISTED: usize = 2 * MOST_LINES;
-
 /// What stands in such a list: how many lines the next route has, or the position of a line of the present one.
 #[derive(Clone, Copy)]
 pub(crate) enum Entry {

@@ -1,8 +1,10 @@
-ghost use Rattle.std.specs.Prelude.{◌≡◌, ◌<◌, ◌≢◌, length, drop};
+ghost use Rattle.std.specs.Prelude.{◌≡◌, ◌<◌, ◌≢◌, length, drop, IfSome, IfNone};
 ghost use Rattle.network.specs.Answers.{PartedBy, Carries};
+ghost use Rattle.network.specs.Lines.{Fits};
 ghost use Rattle.network.specs.Cuts.{level_of};
 
 use crate::engine::{Engine, Flow, SiteWork};
+use crate::line::Line;
 use crate::network::{MOST_LINES, MOST_SITES, Network};
 
 /// Two different places of a network: what an engine is asked about.
@@ -16,7 +18,21 @@ pub struct Pair<'a> {
     ghost b_within: { b < net.sites },
 }
 
-impl Pair<'_> {
+impl<'a> Pair<'a> {
+    /// Two places of the network of these lines; none where that is none, or they are not two of its places.
+    pub fn new(sites: usize, lines: &'a [Line], a: usize, b: usize) -> Option<Pair<'a>>
+        ensures net { IfSome result (λ p. (p.net.sites ≡ sites) × (p.net.lines.now ≡ lines.now)) }
+        ensures places { IfSome result (λ p. (p.a ≡ a) × (p.b ≡ b)) }
+        ensures none { IfNone result (Fits sites lines.now → a < sites → b < sites → a ≢ b → ⊥) }
+    {
+        let net = Network::new(sites, lines)?;
+        if a != b && a < sites && b < sites {
+            Some(Pair { net, a, b })
+        } else {
+            None
+        }
+    }
+
     /// The flow from the first place to the second, as many routes as their level; the marks say which lines carry it.
     #[tactic(auto, using(crate::proofs::Duality::level_answered))]
     pub fn flow<E: Engine>(&self, marks: &mut [u8; MOST_LINES]) -> Flow

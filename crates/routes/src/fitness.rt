@@ -7,7 +7,7 @@ ghost use Rattle.routes.specs.Shapes.{PairOf, Ready, Sized, BalancedAt};
 
 use crate::arcs::{End, carried_at};
 use crate::marking::Marking;
-use network::{Line, Network, Pair};
+use network::{Line, Pair};
 
 impl<'a> Marking<'a> {
     /// The two places, where the marks carry `value` from `a` to `b` and `k` is no more, so that routes can be taken.
@@ -29,13 +29,7 @@ impl<'a> Marking<'a> {
         ensures of { IfSome result (λ q. PairOf self.now q) }
         ensures none { IfNone result ((k : ℕ) → FitBy self.now k → ⊥) }
     {
-        let (a, b) = (self.a, self.b);
-        let net = Network::new(self.sites, self.lines)?;
-        if a != b && a < net.sites && b < net.sites {
-            Some(Pair { net, a, b })
-        } else {
-            None
-        }
+        Pair::new(self.sites, self.lines, self.a, self.b)
     }
 
     /// Whether the marks carry `value` between the two places, and `k` is no more.

@@ -9,4 +9,4 @@ mod taking;
 mod walking;
 
 pub use marking::Marking;
-pub use taking::take_routes;
+pub use taking::{MOST_NUMBERS, take_routes};

@@ -11,7 +11,7 @@ use crate::walking::walk;
 use network::{MOST_LINES, Pair};
 
 /// The most numbers that routes are written in: each line is on one route, and each route has a line and a count.
-const MOST_NUMBERS: usize = 2 * MOST_LINES;
+pub const MOST_NUMBERS: usize = 2 * MOST_LINES;
 
 /// Puts the count of the lines from `start` up to `top` before them, and answers where it stands.
 fn put_count(store: &mut [u16], start: usize, top: usize) -> usize

@@ -7,12 +7,12 @@ ghost use Rattle.book.specs.Runs.{Lawful, BookedByLaw, ShowedByLaw, ListedByLaw}
 
 use super::Book;
 use crate::fault::{Cut, Fault};
-use crate::listing::MOST_LISTED;
 use crate::tables::{cut_out, free_all};
 use crate::ticket::{Denied, Ticket};
 use crate::tree::tree_of;
 use cuttree::Tree;
 use network::{Engine, Line, MOST_LINES, MOST_SITES, Site};
+use routes::MOST_NUMBERS;
 use std::alloc::{AllocError, Global};
 use std::marker::PhantomData;
 
@@ -25,7 +25,7 @@ impl<E> Book<E> {
         let sites = Vec::with_capacity(heap, MOST_SITES)?;
         let lines = Vec::with_capacity(heap, MOST_LINES)?;
         let standing = Vec::with_capacity(heap, MOST_LINES)?;
-        let shown = Vec::with_capacity(heap, MOST_LISTED)?;
+        let shown = Vec::with_capacity(heap, MOST_NUMBERS)?;
         Ok(Book {
             sites,
             lines,

@@ -6,14 +6,13 @@ ghost use Rattle.book.specs.Plans.{StandsAt, Placed, Chosen, Prepared};
 
 use super::Book;
 use crate::fault::Fault;
-use crate::listing::MOST_LISTED;
 use crate::standing::Standing;
 use crate::tables::{Stretch, find_row, hold, lay, name_places, tell};
 use crate::ticket::Ticket;
 use crate::tree::tree_of;
 use netfile::{NetworkFile, find};
 use network::{Engine, MOST_LINES, Network, Pair};
-use routes::{Marking, take_routes};
+use routes::{MOST_NUMBERS, Marking, take_routes};
 
 /// How many bookings a book accepts.
 const LAST_NUMBER: u16 = 65535;
@@ -121,7 +120,7 @@ impl<E: Engine> Book<E> {
         ensures { Booked self.old first second k self.new result }
     {
         // fixed room, since no call allocates
-        let mut list = [0u16; MOST_LISTED];
+        let mut list = [0u16; MOST_NUMBERS];
         let length = self.plan(first, second, k, &mut list)?;
         let listed = &list[0..length];
         tell(&mut self.shown, &self.lines, listed);
@@ -143,7 +142,7 @@ impl<E: Engine> Book<E> {
         first: u16,
         second: u16,
         k: u32,
-        list: &mut [u16; MOST_LISTED],
+        list: &mut [u16; MOST_NUMBERS],
     ) -> Result<usize, Fault>
         ensures { Prepared self.now first second k list.new result }
     {
@@ -169,7 +168,7 @@ fn is_level(k: u32) -> bool
 fn choose<E: Engine>(
     pair: &Pair<'_>,
     k: usize,
-    list: &mut [u16; MOST_LISTED],
+    list: &mut [u16; MOST_NUMBERS],
 ) -> Result<usize, Fault>
     requires { k ≤ 512 }
     ensures { Chosen pair.now.net.sites pair.now.net.lines.now pair.now.a pair.now.b k list.new result }
