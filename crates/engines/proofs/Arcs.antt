@@ -4,13 +4,11 @@ use Rattle.std.proofs.lemmas.List.{get_or-set_same, get_or-set_other}
 use Rattle.std.proofs.lemmas.Bool.{cases_eq, eq-eqb, ne_eqb}
 use Rattle.std.proofs.lemmas.Bool.Decides.{nat_tests}
 use Rattle.network.specs.declared.line.Line.{Line}
-use Rattle.network.specs.declared.network.Network.{Network}
-use Rattle.network.specs.declared.engine.SiteWork.{SiteWork}
 use Rattle.network.specs.Lines.{line_at, Joins, AllJoin}
 use Rattle.network.specs.Flow.{mark_at, one, leaves, arrives, outs, ins, Marked, AllMarked}
 use Rattle.network.proofs.Sums.{sum_marked_set}
 use Rattle.engines.specs.declared.residual.Way.{Way}
-use Rattle.engines.specs.Hands.{InHand}
+use Rattle.engines.specs.declared.hand.Hand.{Hand}
 use Rattle.engines.specs.Arcs.{tail, head, residual, arc, pushed, sent_over}
 
 pub head_below : (n : ℕ) (l : Line) (e : Bool) → Joins n l → head l e < n
@@ -29,8 +27,8 @@ ends_apart n l false j h = j.2 (sym h)
 pub joins_at : (n m : ℕ) (ls : List Line) → m ≡ n → AllJoin n ls → AllJoin m ls
 joins_at n m ls e j = subst (λ (x : ℕ). AllJoin x ls) (sym e) j
 
-pub joined_in : (net : Network) (ms : List ℕ) (ws : List SiteWork) → InHand net ms ws → AllJoin (length ws) net.lines.now
-joined_in net ms ws h = joins_at net.sites (length ws) net.lines.now h.kept net.joined
+pub joined_in : (h : Hand) → AllJoin (length h.work.now) h.pair.net.lines.now
+joined_in h = joins_at h.pair.net.sites (length h.work.now) h.pair.net.lines.now h.kept h.pair.net.joined
 
 -- what holds of a way's line and direction, where both are known
 pub over_by : (P : ℕ → Bool → Type 0) (w : Way) (k : ℕ) (e : Bool) → w ≡ record { line = k; from_first = e } → P w.line w.from_first → P k e

@@ -13,7 +13,7 @@ use Rattle.network.specs.Cuts.{crosses, crossing_by}
 use Rattle.network.specs.Flow.{mark_at, one, leaves, arrives, outs, ins, Marked, AllMarked, Balanced}
 use Rattle.network.specs.Answers.{Task, Flows, Answer}
 use Rattle.network.proofs.Sums.{sum_marked_plus, sum_marked_zero, sum_marked_count, outs_le, outs_front, ins_front, below, cut}
-use Rattle.engines.specs.Hands.{InHand}
+use Rattle.engines.specs.declared.hand.Hand.{Hand}
 use Rattle.engines.specs.Arcs.{tail, head, residual, arc}
 use Rattle.engines.specs.Search.{seen_at, Stuck}
 use Rattle.engines.proofs.Arcs.{head_below, tail_below}
@@ -75,26 +75,26 @@ pub none_marked : (ls : List Line) (ms : List ℕ) → ((k : ℕ) → mark_at ms
 none_marked ls ms dark k _ = (omega (arith, dark k), λ _. dark k)
 
 -- a search that is stuck answers: the side of the places that it has seen
-pub answered : (q : Pair) (ms₀ ms : List ℕ) (ws : List SiteWork) (v side : ℕ) → InHand q.net ms ws → length ms₀ ≡ length q.net.lines.now →
-    AllMarked q.net.lines.now ms → Balanced q.net.lines.now ms q.a q.b v → Stuck q.net.lines.now ms ws q.a q.b →
-    side < 2 ^ length ws → ((p : ℕ) → p < length ws → member side p ≡ not (eqb (seen_at ws p) 0)) →
-    Flows q.net.sites q.net.lines.now q.a q.b ms₀ ms v side
-answered q ms₀ ms ws v side h sized₀ marked bal stuck low places =
+pub answered : (h : Hand) (ms₀ : List ℕ) (v side : ℕ) → length ms₀ ≡ length h.pair.net.lines.now →
+    AllMarked h.pair.net.lines.now h.marks.now → Balanced h.pair.net.lines.now h.marks.now h.pair.a h.pair.b v → Stuck h.pair.net.lines.now h.marks.now h.work.now h.pair.a h.pair.b →
+    side < 2 ^ length h.work.now → ((p : ℕ) → p < length h.work.now → member side p ≡ not (eqb (seen_at h.work.now p) 0)) →
+    Flows h.pair.net.sites h.pair.net.lines.now h.pair.a h.pair.b ms₀ h.marks.now v side
+answered h ms₀ v side sized₀ marked bal stuck low places =
     record {
       parted = record {
         has_a = has_a;
         lacks_b = dark;
         within = subst (λ (x : ℕ). side < 2 ^ x) h.kept low;
-        crossed = crossings (member side) q.net.sites ls ms q.a q.b v h.marked q.net.joined marked bal q.a_within has_a dark
-            (λ k e lt at tk. held (head (line_at ls k) e) (head_below q.net.sites (line_at ls k) e (q.net.joined k lt))
-            (stuck.shut k e lt (lit (tail (line_at ls k) e) (tail_below q.net.sites (line_at ls k) e (q.net.joined k lt)) at) tk));
+        crossed = crossings (member side) h.pair.net.sites ls h.marks.now h.pair.a h.pair.b v h.marked h.pair.net.joined marked bal h.pair.a_within has_a dark
+            (λ k e lt at tk. held (head (line_at ls k) e) (head_below h.pair.net.sites (line_at ls k) e (h.pair.net.joined k lt))
+            (stuck.shut k e lt (lit (tail (line_at ls k) e) (tail_below h.pair.net.sites (line_at ls k) e (h.pair.net.joined k lt)) at) tk));
       };
       carried = record { marked = marked; balanced = bal };
-      rest = drop_all (length ls) ms (omega (arith, h.marked)) ∙ sym (drop_all (length ls) ms₀ (omega arith));
+      rest = drop_all (length ls) h.marks.now (omega (arith, h.marked)) ∙ sym (drop_all (length ls) ms₀ (omega arith));
     }
   where
     ls : List Line
-    ls = q.net.lines.now
+    ls = h.pair.net.lines.now
 
     is_lit : (t : Bool) (s : ℕ) → t ≡ not (eqb s 0) → t ≡ true → 0 < s
     is_lit t s e h = grind (arith, nat_tests)
@@ -105,17 +105,17 @@ answered q ms₀ ms ws v side h sized₀ marked bal stuck low places =
     is_dark : (t : Bool) (s : ℕ) → t ≡ not (eqb s 0) → s ≡ 0 → t ≡ false
     is_dark t s e h = grind (arith, nat_tests)
 
-    lit : (p : ℕ) → p < q.net.sites → member side p ≡ true → 0 < seen_at ws p
-    lit p lt = is_lit (member side p) (seen_at ws p) (places p (omega (arith, h.kept)))
+    lit : (p : ℕ) → p < h.pair.net.sites → member side p ≡ true → 0 < seen_at h.work.now p
+    lit p lt = is_lit (member side p) (seen_at h.work.now p) (places p (omega (arith, h.kept)))
 
-    held : (p : ℕ) → p < q.net.sites → 0 < seen_at ws p → member side p ≡ true
-    held p lt = is_held (member side p) (seen_at ws p) (places p (omega (arith, h.kept)))
+    held : (p : ℕ) → p < h.pair.net.sites → 0 < seen_at h.work.now p → member side p ≡ true
+    held p lt = is_held (member side p) (seen_at h.work.now p) (places p (omega (arith, h.kept)))
 
-    has_a : member side q.a ≡ true
-    has_a = held q.a q.a_within stuck.lit
+    has_a : member side h.pair.a ≡ true
+    has_a = held h.pair.a h.pair.a_within stuck.lit
 
-    dark : member side q.b ≡ false
-    dark = is_dark (member side q.b) (seen_at ws q.b) (places q.b (omega (arith, h.kept, q.b_within))) stuck.dark
+    dark : member side h.pair.b ≡ false
+    dark = is_dark (member side h.pair.b) (seen_at h.work.now h.pair.b) (places h.pair.b (omega (arith, h.kept, h.pair.b_within))) stuck.dark
 
 -- an answer over the front of the marks, just as many as there are lines, is one over all of them
 pub widened : (q : Pair) (n : ℕ) (ls : List Line) (a b : ℕ) (ms front after : List ℕ) (ws ws' : List SiteWork) (f : Flow) →

@@ -1,3 +1,4 @@
+pub mod Hands
 pub mod Arcs
 pub mod Rounds
 pub mod Walks

@@ -3,11 +3,10 @@ use Rattle.std.proofs.Common.{◌≡◌, ℕ, ◌+◌, ◌<◌, Bool, true, fals
 use Rattle.std.proofs.lemmas.List.{get_or-set_same, get_or-set_other}
 use Rattle.std.proofs.lemmas.Bool.{cases_eq, eq-eqb, ne_eqb, cond-true, cond-false, both_ways}
 use Rattle.network.specs.declared.line.Line.{Line}
-use Rattle.network.specs.declared.network.Network.{Network}
 use Rattle.network.specs.declared.engine.SiteWork.{SiteWork}
 use Rattle.network.specs.Lines.{line_at, AllJoin}
 use Rattle.network.specs.Flow.{mark_at, one}
-use Rattle.engines.specs.Hands.{InHand}
+use Rattle.engines.specs.declared.hand.Hand.{Hand}
 use Rattle.engines.specs.Arcs.{tail, head, residual, arc, pushed, sent_over}
 use Rattle.engines.specs.Heights.{height_at, surplus_at, moved, Loaded, Preflow, Fresh, Opening, Sends}
 use Rattle.engines.proofs.Arcs.{head_below, tail_below, ends_apart, way_from, pushed_full, push_marked}
@@ -33,14 +32,14 @@ opening_none ls ms ws a dark f =
       purse = omega (arith, f.purse);
     }
 
-pub opening_loaded : (net : Network) (ms : List ℕ) (ws : List SiteWork) (a k : ℕ) → InHand net ms ws → Opening net.lines.now ms ws a k →
-    k < length net.lines.now → Loaded ws a
-opening_loaded net ms ws a k h o lt =
+pub opening_loaded : (h : Hand) (k : ℕ) → Opening h.pair.net.lines.now h.marks.now h.work.now h.pair.a k →
+    k < length h.pair.net.lines.now → Loaded h.work.now h.pair.a
+opening_loaded h k o lt =
     record {
       has = omega (arith, o.purse);
-      small = λ q. omega (arith, small net.lines.now ms ws a q o.account, net.few_lines);
-      low = λ q. elim (cases_eq q a) [
-        | inl eq ↦ omega (arith, ap (height_at ws) eq, o.top, h.kept, net.few_sites)
+      small = λ q. omega (arith, small h.pair.net.lines.now h.marks.now h.work.now h.pair.a q o.account, h.pair.net.few_lines);
+      low = λ q. elim (cases_eq q h.pair.a) [
+        | inl eq ↦ omega (arith, ap (height_at h.work.now) eq, o.top, h.kept, h.pair.net.few_sites)
         | inr ne ↦ omega (arith, o.flat q ne)
       ];
     }

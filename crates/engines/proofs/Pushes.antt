@@ -4,12 +4,11 @@ use Rattle.std.proofs.lemmas.List.{get_or-set_other}
 use Rattle.std.proofs.lemmas.Bool.{cases_eq, eqb-true, and_parts, and_from, eq-eqb, ne_eqb, cond-false, both_ways}
 use Rattle.std.proofs.lemmas.Bool.Decides.{nat_tests}
 use Rattle.network.specs.declared.line.Line.{Line}
-use Rattle.network.specs.declared.network.Network.{Network}
 use Rattle.network.specs.declared.engine.SiteWork.{SiteWork}
 use Rattle.network.specs.Lines.{line_at, AllJoin}
 use Rattle.network.specs.Flow.{mark_at, one, outs, AllMarked}
 use Rattle.network.proofs.Sums.{ins_le}
-use Rattle.engines.specs.Hands.{InHand}
+use Rattle.engines.specs.declared.hand.Hand.{Hand}
 use Rattle.engines.specs.Arcs.{tail, head, residual, arc, pushed, sent_over}
 use Rattle.engines.specs.Heights.{height_at, surplus_at, moved, raised, Loaded, Account, Labels, Preflow, left, falls, Pushed, Level, Stepped}
 use Rattle.engines.proofs.Arcs.{head_below, tail_below, ends_apart, joined_in, turned, push_net, push_marked}
@@ -22,13 +21,13 @@ small ls ms ws a p account =
     let c : cond (eqb p a) (length ls) 0 ≤ length ls = grind (arith, nat_tests) in
     omega (arith, account p, ins_le (eqb p) ls ms)
 
-pub loaded : (net : Network) (ms : List ℕ) (ws : List SiteWork) (a b p : ℕ) → InHand net ms ws → Preflow net.lines.now ms ws a b →
-    0 < surplus_at ws p → Loaded ws p
-loaded net ms ws a b p h f has =
+pub loaded : (h : Hand) (p : ℕ) → Preflow h.pair.net.lines.now h.marks.now h.work.now h.pair.a h.pair.b →
+    0 < surplus_at h.work.now p → Loaded h.work.now p
+loaded h p f has =
     record {
       has = has;
-      small = λ q. omega (arith, small net.lines.now ms ws a q f.account, net.few_lines);
-      low = λ q. omega (arith, f.low q, h.kept, net.few_sites);
+      small = λ q. omega (arith, small h.pair.net.lines.now h.marks.now h.work.now h.pair.a q f.account, h.pair.net.few_lines);
+      low = λ q. omega (arith, f.low q, h.kept, h.pair.net.few_sites);
     }
 
 pub push_account : (ls : List Line) (ms : List ℕ) (k : ℕ) (e : Bool) → length ms ≡ length ls → k < length ls → arc ls ms k e ≡ true →
@@ -138,18 +137,22 @@ module _ (ls : List Line) (ms : List ℕ) (ws : List SiteWork) (a b p : ℕ) (si
           omega (arith, raised_left ws p p_in (length ws) under, small ls ms ws a p f.account),
         )
 
-module _ (net : Network) (ms : List ℕ) (ws : List SiteWork) (p : ℕ) (h : InHand net ms ws) (has : 0 < surplus_at ws p) where
-  pub step_pushed : (ms' : List ℕ) (ws' : List SiteWork) → Pushed net.lines.now ms ws ms' ws' p → Stepped net.lines.now ms ws ms' ws' p
+module _ (h : Hand) (p : ℕ) (has : 0 < surplus_at h.work.now p) where
+  pub step_pushed : (ms' : List ℕ) (ws' : List SiteWork) → Pushed h.pair.net.lines.now h.marks.now h.work.now ms' ws' p →
+      Stepped h.pair.net.lines.now h.marks.now h.work.now ms' ws' p
   step_pushed ms' ws' s a b a_in na nb f =
-      let r = push_keeps net.lines.now ms ws a b p h.marked (joined_in net ms ws h) f has ms' ws' s in
-      (r.0, r.1 (length ws))
+      let r = push_keeps h.pair.net.lines.now h.marks.now h.work.now a b p h.marked (joined_in h) f has ms' ws' s in
+      (r.0, r.1 (length h.work.now))
 
-  pub step_raised : (ms' : List ℕ) (ws₁ ws₂ : List SiteWork) → p < net.sites →
-      (ms' ≡ ms) × (ws₁ ≡ ws) × Level net.lines.now ms ws p (length net.lines.now) → ws₂ ≡ raised ws₁ p → Stepped net.lines.now ms ws ms' ws₂ p
+  pub step_raised : (ms' : List ℕ) (ws₁ ws₂ : List SiteWork) → p < h.pair.net.sites →
+      (ms' ≡ h.marks.now) × (ws₁ ≡ h.work.now) × Level h.pair.net.lines.now h.marks.now h.work.now p (length h.pair.net.lines.now) →
+      ws₂ ≡ raised ws₁ p → Stepped h.pair.net.lines.now h.marks.now h.work.now ms' ws₂ p
   step_raised ms' ws₁ ws₂ p_in tried is a b a_in na nb f =
-      let ls = net.lines.now in
+      let ls = h.pair.net.lines.now in
+      let ms = h.marks.now in
+      let ws = h.work.now in
       let n = length ws in
       let same : ws₂ ≡ raised ws p = is ∙ ap (λ (x : List SiteWork). raised x p) tried.1 in
       subst (λ (x : List ℕ). Preflow ls x ws₂ a b × (left n ws₂ < left n ws)) (sym tried.0)
       (subst (λ (x : List SiteWork). Preflow ls ms x a b × (left n x < left n ws)) (sym same)
-      (raise_keeps ls ms ws a b p h.marked (joined_in net ms ws h) f has net.few_lines (omega (arith, h.kept)) a_in na nb tried.2))
+      (raise_keeps ls ms ws a b p h.marked (joined_in h) f has h.pair.net.few_lines (omega (arith, h.kept)) a_in na nb tried.2))

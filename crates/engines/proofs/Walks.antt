@@ -2,11 +2,10 @@
 use Rattle.std.proofs.Common.{◌≡◌, ℕ, ◌+◌, ◌<◌, ◌≤◌, Bool, true, false, cond, eqb, List, length, sym, refl, ap, ◌∙◌, subst, inl, inr, arith}
 use Rattle.std.proofs.lemmas.List.{get_or-set_other}
 use Rattle.network.specs.declared.line.Line.{Line}
-use Rattle.network.specs.declared.network.Network.{Network}
 use Rattle.network.specs.declared.engine.SiteWork.{SiteWork}
 use Rattle.network.specs.Lines.{line_at, AllJoin}
 use Rattle.network.specs.Flow.{mark_at, one, Balanced}
-use Rattle.engines.specs.Hands.{InHand}
+use Rattle.engines.specs.declared.hand.Hand.{Hand}
 use Rattle.engines.specs.Arcs.{tail, head, residual, arc, pushed, sent_over, Sent}
 use Rattle.engines.specs.Search.{seen_at, parent_at, way_in, Rooted, Walk}
 use Rattle.engines.proofs.Arcs.{tail_below, joined_in, turned, way_to, push_net, push_marked}
@@ -56,14 +55,18 @@ module _ (ls : List Line) (ms₀ ms : List ℕ) (ws : List SiteWork) (a b c : �
         route = by_route;
       }
 
-pub walk_step : (net : Network) (ms₀ ms ms' : List ℕ) (ws : List SiteWork) (a b c c' : ℕ) → InHand net ms ws →
-    Walk net.lines.now ms₀ ms ws a b c → (c ≡ a → ⊥) →
-    c' ≡ tail (line_at net.lines.now (parent_at ws c)) (way_in net.lines.now ws c) →
-    ms' ≡ sent_over ms (parent_at ws c) (way_in net.lines.now ws c) →
-    Walk net.lines.now ms₀ ms' ws a b c' × (seen_at ws c' < seen_at ws c)
-walk_step net ms₀ ms ms' ws a b c c' h w ne c_is m_is =
-    let ls = net.lines.now in
-    let joins = joined_in net ms ws h in
+pub walk_step : (h : Hand) (ms₀ ms' : List ℕ) (c c' : ℕ) →
+    Walk h.pair.net.lines.now ms₀ h.marks.now h.work.now h.pair.a h.pair.b c → (c ≡ h.pair.a → ⊥) →
+    c' ≡ tail (line_at h.pair.net.lines.now (parent_at h.work.now c)) (way_in h.pair.net.lines.now h.work.now c) →
+    ms' ≡ sent_over h.marks.now (parent_at h.work.now c) (way_in h.pair.net.lines.now h.work.now c) →
+    Walk h.pair.net.lines.now ms₀ ms' h.work.now h.pair.a h.pair.b c' × (seen_at h.work.now c' < seen_at h.work.now c)
+walk_step h ms₀ ms' c c' w ne c_is m_is =
+    let ls = h.pair.net.lines.now in
+    let ms = h.marks.now in
+    let ws = h.work.now in
+    let a = h.pair.a in
+    let b = h.pair.b in
+    let joins = joined_in h in
     elim (w.route c w.inside w.lit (omega arith)) [
       | inl root ↦ absurd (ne root)
       | inr s ↦

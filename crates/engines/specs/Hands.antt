@@ -1,9 +1,9 @@
 -- What an engine has in hand while it works.
-use Rattle.std.specs.Prelude.{◌≡◌, ℕ, List, length}
-use Rattle.network.specs.declared.network.Network.{Network}
-use Rattle.network.specs.declared.engine.SiteWork.{SiteWork}
+use Rattle.std.specs.Prelude.{◌≡◌}
+use Rattle.engines.specs.declared.hand.Hand.{Hand}
 
--- a mark for each line of the network, and a record for each site
-pub record InHand (net : Network) (ms : List ℕ) (ws : List SiteWork) : Type 0 where
-  pub marked : length ms ≡ length net.lines.now
-  pub kept : length ws ≡ net.sites
+-- the same pair, marks and table in the same places of memory; what is marked and noted there may differ
+pub record SameHand (h h' : Hand) : Type 0 where
+  pub pair : h'.pair ≡ h.pair
+  pub marks : h'.marks.ghost_name ≡ h.marks.ghost_name
+  pub work : h'.work.ghost_name ≡ h.work.ghost_name

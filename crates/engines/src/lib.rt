@@ -1,5 +1,6 @@
 #![tactic(auto)]
 
+mod hand;
 mod push;
 mod residual;
 mod search;

@@ -1,65 +1,13 @@
 //! The engine that floods the network from one place and lets what cannot get to the other run back.
 
 ghost use Rattle.std.specs.Prelude.{◌≡◌, ◌+◌, ◌^◌, ◌<◌, ◌||◌, length, ◌==◌, ◌≢◌, IfSome, IfNone};
-ghost use Rattle.engines.specs.Hands.{InHand};
+ghost use Rattle.engines.specs.Hands.{SameHand};
 ghost use Rattle.engines.specs.Heights.{height_at, surplus_at, moved, raised, Loaded, Sends, Tried, TriedLine, TriedAll, Stepped, Preflow, Settled, Fresh, Opening};
 
-use crate::residual::{Way, clear_marks};
-use crate::search::{clear_work, search, side_seen};
+use crate::hand::Hand;
+use crate::residual::Way;
 use crate::task::{Method, answer};
-use network::{Engine, Flow, Line, Network, Pair, SiteWork};
-
-// Takes one unit of surplus from p to q.
-fn move_surplus(work: &mut [SiteWork], p: usize, q: usize)
-    requires p_within { p < length work.old }
-    requires q_within { q < length work.old }
-    requires apart { p ≢ q }
-    requires has { 0 < surplus_at work.old p }
-    requires room { surplus_at work.old q + 1 < 2 ^ 16 }
-    ensures { work.new ≡ moved work.old p q }
-{
-    work[p].surplus -= 1;
-    work[q].surplus += 1;
-}
-
-fn raise(work: &mut [SiteWork], p: usize)
-    requires within { p < length work.old }
-    requires room { height_at work.old p + 1 < 2 ^ 16 }
-    ensures { work.new ≡ raised work.old p }
-{
-    work[p].height += 1;
-}
-
-// Sends one unit of p's surplus that way, if it leads from p and the line takes one.
-fn try_send(net: &Network<'_>, marks: &mut [u8], work: &mut [SiteWork], p: usize, way: Way) -> bool
-    requires listed { way.line < length net.now.lines.now }
-    requires in_hand { InHand net.now marks.old work.old }
-    requires loaded { Loaded work.old p }
-    ensures { Sends net.now.lines.now marks.old work.old marks.new work.new p way.line way.from_first result }
-{
-    let (from, to) = way.ends(net);
-    if from == p && way.takes(net, marks) {
-        way.send(marks);
-        move_surplus(work, from, to);
-        true
-    } else {
-        false
-    }
-}
-
-// Sends one unit of p's surplus that way, if it leads from p one step down and the line takes one.
-fn try_push(net: &Network<'_>, marks: &mut [u8], work: &mut [SiteWork], p: usize, way: Way) -> bool
-    requires listed { way.line < length net.now.lines.now }
-    requires in_hand { InHand net.now marks.old work.old }
-    requires loaded { Loaded work.old p }
-    ensures { Tried net.now.lines.now marks.old work.old marks.new work.new p way.line way.from_first result }
-{
-    let (from, to) = way.ends(net);
-    if work[from].height != work[to].height + 1 {
-        return false;
-    }
-    try_send(net, marks, work, p, way)
-}
+use network::{Engine, Flow, Line, Pair, SiteWork};
 
 // Whether the line is one of p's.
 fn touches(line: &Line, p: usize) -> bool
@@ -68,88 +16,150 @@ fn touches(line: &Line, p: usize) -> bool
     line.first as usize == p || line.second as usize == p
 }
 
-// Sends one unit of p's surplus one step down over the line k, if it takes it either way.
-fn try_line(net: &Network<'_>, marks: &mut [u8], work: &mut [SiteWork], p: usize, k: usize) -> bool
-    requires listed { k < length net.now.lines.now }
-    requires in_hand { InHand net.now marks.old work.old }
-    requires loaded { Loaded work.old p }
-    ensures { TriedLine net.now.lines.now marks.old work.old marks.new work.new p k result }
-{
-    try_push(net, marks, work, p, Way::over(k, true))
-        || try_push(net, marks, work, p, Way::over(k, false))
-}
+impl Hand<'_> {
+    // Takes one unit of surplus from p to q.
+    fn move_surplus(&mut self, p: usize, q: usize)
+        requires p_within { p < self.old.pair.net.sites }
+        requires q_within { q < self.old.pair.net.sites }
+        requires apart { p ≢ q }
+        requires has { 0 < surplus_at self.old.work.now p }
+        requires room { surplus_at self.old.work.now q + 1 < 2 ^ 16 }
+        ensures same { SameHand self.old self.new }
+        ensures marks { self.new.marks.now ≡ self.old.marks.now }
+        ensures moved { self.new.work.now ≡ moved self.old.work.now p q }
+    {
+        self.work[p].surplus -= 1;
+        self.work[q].surplus += 1;
+    }
 
-// Sends one unit of p's surplus one step down, over the first of p's lines that takes it.
-fn push_from(net: &Network<'_>, marks: &mut [u8], work: &mut [SiteWork], p: usize) -> bool
-    requires in_hand { InHand net.now marks.old work.old }
-    requires loaded { Loaded work.old p }
-    ensures { TriedAll net.now.lines.now marks.old work.old marks.new work.new p result }
-{
-    for (k, line) in net.lines.iter().enumerate() {
-        if touches(line, p) && try_line(net, marks, work, p, k) {
-            return true;
+    fn raise(&mut self, p: usize)
+        requires within { p < self.old.pair.net.sites }
+        requires room { height_at self.old.work.now p + 1 < 2 ^ 16 }
+        ensures same { SameHand self.old self.new }
+        ensures marks { self.new.marks.now ≡ self.old.marks.now }
+        ensures raised { self.new.work.now ≡ raised self.old.work.now p }
+    {
+        self.work[p].height += 1;
+    }
+
+    // Sends one unit of p's surplus that way, if it leads from p and the line takes one.
+    fn try_send(&mut self, p: usize, way: Way) -> bool
+        requires listed { way.line < length self.old.pair.net.lines.now }
+        requires loaded { Loaded self.old.work.now p }
+        ensures same { SameHand self.old self.new }
+        ensures sends { Sends self.old.pair.net.lines.now self.old.marks.now self.old.work.now self.new.marks.now self.new.work.now p way.line way.from_first result }
+    {
+        let (from, to) = way.ends(self);
+        if from == p && way.takes(self) {
+            way.send(self);
+            self.move_surplus(from, to);
+            true
+        } else {
+            false
         }
     }
-    false
-}
 
-// A place other than a and b that has a surplus.
-fn find_active(work: &[SiteWork], a: usize, b: usize) -> Option<usize>
-    ensures active { IfSome result (λ p. (p < length work.now) × (p ≢ a) × (p ≢ b) × (0 < surplus_at work.now p)) }
-    ensures none { IfNone result (Settled work.now a b) }
-{
-    work.iter()
-        .enumerate()
-        .position(|(p, site)| p != a && p != b && site.surplus != 0)
-}
-
-// One step at p, which has a surplus: a unit goes down, or else p goes up.
-fn step(net: &Network<'_>, marks: &mut [u8], work: &mut [SiteWork], p: usize)
-    requires in_hand { InHand net.now marks.old work.old }
-    requires loaded { Loaded work.old p }
-    requires within { p < net.now.sites }
-    ensures { Stepped net.now.lines.now marks.old work.old marks.new work.new p }
-{
-    if !push_from(net, marks, work, p) {
-        raise(work, p);
+    // Sends one unit of p's surplus that way, if it leads from p one step down and the line takes one.
+    fn try_push(&mut self, p: usize, way: Way) -> bool
+        requires listed { way.line < length self.old.pair.net.lines.now }
+        requires loaded { Loaded self.old.work.now p }
+        ensures same { SameHand self.old self.new }
+        ensures tried { Tried self.old.pair.net.lines.now self.old.marks.now self.old.work.now self.new.marks.now self.new.work.now p way.line way.from_first result }
+    {
+        let (from, to) = way.ends(self);
+        if self.work[from].height != self.work[to].height + 1 {
+            return false;
+        }
+        self.try_send(p, way)
     }
-}
 
-// Steps until all surplus is back at a or has come to b.
-fn drain(pair: &Pair<'_>, marks: &mut [u8], work: &mut [SiteWork])
-    requires in_hand { InHand pair.now.net marks.old work.old }
-    requires begun { Preflow pair.now.net.lines.now marks.old work.old pair.now.a pair.now.b }
-    ensures ended { Preflow pair.now.net.lines.now marks.new work.new pair.now.a pair.now.b }
-    ensures settled { Settled work.new pair.now.a pair.now.b }
-{
-    'steps: while let Some(p) = find_active(work, pair.a, pair.b) {
-        step(&pair.net, marks, work, p);
+    // Sends one unit of p's surplus one step down over the line k, if it takes it either way.
+    fn try_line(&mut self, p: usize, k: usize) -> bool
+        requires listed { k < length self.old.pair.net.lines.now }
+        requires loaded { Loaded self.old.work.now p }
+        ensures same { SameHand self.old self.new }
+        ensures tried { TriedLine self.old.pair.net.lines.now self.old.marks.now self.old.work.now self.new.marks.now self.new.work.now p k result }
+    {
+        self.try_push(p, Way::over(k, true)) || self.try_push(p, Way::over(k, false))
     }
-}
 
-// The table before the first push: all places at height 0 and with no surplus, but for a, which is as high as there are
-// places, and has as many units as there are lines.
-fn prepare(pair: &Pair<'_>, work: &mut [SiteWork])
-    requires { length work.old ≡ pair.now.net.sites }
-    ensures { Fresh work.new pair.now.a (length pair.now.net.lines.now) }
-{
-    clear_work(work);
-    work[pair.a] = SiteWork {
-        height: pair.net.sites as u16,
-        surplus: pair.net.lines.len() as u16,
-        ..SiteWork::default()
-    };
-}
+    // Sends one unit of p's surplus one step down, over the first of p's lines that takes it.
+    fn push_from(&mut self, p: usize) -> bool
+        requires loaded { Loaded self.old.work.now p }
+        ensures same { SameHand self.old self.new }
+        ensures tried { TriedAll self.old.pair.net.lines.now self.old.marks.now self.old.work.now self.new.marks.now self.new.work.now p result }
+    {
+        let lines = self.pair.net.lines;
+        for (k, line) in lines.iter().enumerate() {
+            if touches(line, p) && self.try_line(p, k) {
+                return true;
+            }
+        }
+        false
+    }
 
-// Sends away from a what the lines at a take.
-fn saturate(pair: &Pair<'_>, marks: &mut [u8], work: &mut [SiteWork])
-    requires in_hand { InHand pair.now.net marks.old work.old }
-    requires begun { Opening pair.now.net.lines.now marks.old work.old pair.now.a 0 }
-    ensures { Opening pair.now.net.lines.now marks.new work.new pair.now.a (length pair.now.net.lines.now) }
-{
-    for (k, line) in pair.net.lines.iter().enumerate() {
-        let way = Way::over(k, line.first as usize == pair.a);
-        let _ = try_send(&pair.net, marks, work, pair.a, way);
+    // A place other than a and b that has a surplus.
+    fn find_active(&self) -> Option<usize>
+        ensures active { IfSome result (λ p. (p < self.now.pair.net.sites) × (p ≢ self.now.pair.a) × (p ≢ self.now.pair.b) × (0 < surplus_at self.now.work.now p)) }
+        ensures none { IfNone result (Settled self.now.work.now self.now.pair.a self.now.pair.b) }
+    {
+        let (a, b) = (self.pair.a, self.pair.b);
+        self.work
+            .iter()
+            .enumerate()
+            .position(|(p, site)| p != a && p != b && site.surplus != 0)
+    }
+
+    // One step at p, which has a surplus: a unit goes down, or else p goes up.
+    fn step(&mut self, p: usize)
+        requires loaded { Loaded self.old.work.now p }
+        requires within { p < self.old.pair.net.sites }
+        ensures same { SameHand self.old self.new }
+        ensures stepped { Stepped self.old.pair.net.lines.now self.old.marks.now self.old.work.now self.new.marks.now self.new.work.now p }
+    {
+        if !self.push_from(p) {
+            self.raise(p);
+        }
+    }
+
+    // Steps until all surplus is back at a or has come to b.
+    fn drain(&mut self)
+        requires begun { Preflow self.old.pair.net.lines.now self.old.marks.now self.old.work.now self.old.pair.a self.old.pair.b }
+        ensures same { SameHand self.old self.new }
+        ensures ended { Preflow self.old.pair.net.lines.now self.new.marks.now self.new.work.now self.old.pair.a self.old.pair.b }
+        ensures settled { Settled self.new.work.now self.old.pair.a self.old.pair.b }
+    {
+        'steps: while let Some(p) = self.find_active() {
+            self.step(p);
+        }
+    }
+
+    // The table before the first push: all places at height 0 and with no surplus, but for a, which is as high as there are
+    // places, and has as many units as there are lines.
+    fn prepare(&mut self)
+        ensures same { SameHand self.old self.new }
+        ensures marks { self.new.marks.now ≡ self.old.marks.now }
+        ensures fresh { Fresh self.new.work.now self.old.pair.a (length self.old.pair.net.lines.now) }
+    {
+        self.clear_work();
+        let Pair { net, a, .. } = self.pair;
+        self.work[a] = SiteWork {
+            height: net.sites as u16,
+            surplus: net.lines.len() as u16,
+            ..SiteWork::default()
+        };
+    }
+
+    // Sends away from a what the lines at a take.
+    fn saturate(&mut self)
+        requires begun { Opening self.old.pair.net.lines.now self.old.marks.now self.old.work.now self.old.pair.a 0 }
+        ensures same { SameHand self.old self.new }
+        ensures opened { Opening self.old.pair.net.lines.now self.new.marks.now self.new.work.now self.old.pair.a (length self.old.pair.net.lines.now) }
+    {
+        let Pair { net, a, .. } = self.pair;
+        for (k, line) in net.lines.iter().enumerate() {
+            let _ = self.try_send(a, Way::over(k, line.first as usize == a));
+        }
     }
 }
 
@@ -158,17 +168,17 @@ pub struct Push {}
 
 impl Method for Push {
     // Sends from a all that its lines take, and moves the surplus on until it has come to b or is back at a.
-    fn run(pair: &Pair<'_>, marks: &mut [u8], work: &mut [SiteWork]) -> Flow {
-        clear_marks(marks);
-        prepare(pair, work);
-        saturate(pair, marks, work);
-        drain(pair, marks, work);
-        let value = work[pair.b].surplus as usize;
+    fn run(hand: &mut Hand<'_>) -> Flow {
+        hand.clear_marks();
+        hand.prepare();
+        hand.saturate();
+        hand.drain();
+        let value = hand.work[hand.pair.b].surplus as usize;
         // Some height between b's and a's has no place, and no arc leads down past it: the search never reaches b.
-        let _ = search(pair, marks, work);
+        let _ = hand.search();
         Flow {
             value,
-            side: side_seen(work),
+            side: hand.side_seen(),
         }
     }
 }

@@ -4,8 +4,9 @@ ghost use Rattle.std.specs.Prelude.{◌≡◌, ℕ, ◌<◌, length};
 ghost use Rattle.network.specs.Lines.{line_at};
 ghost use Rattle.network.specs.Flow.{mark_at};
 ghost use Rattle.engines.specs.Arcs.{code, tail, head, arc, sent_over};
+ghost use Rattle.engines.specs.Hands.{SameHand};
 
-use network::Network;
+use crate::hand::Hand;
 
 // A line taken in one of its two directions: from its first place to its second, or back. Which one it is comes from
 // comparing places, and is only asked by `if`: an enum of the two would be made by an `if` from each comparison.
@@ -23,12 +24,12 @@ impl Way {
     }
 
     // The place that a unit comes from which goes this way, and the place that it comes to.
-    pub fn ends(self, net: &Network<'_>) -> (usize, usize)
-        requires { self.line < length net.now.lines.now }
-        ensures tail { result.0 ≡ tail (line_at net.now.lines.now self.line) self.from_first }
-        ensures head { result.1 ≡ head (line_at net.now.lines.now self.line) self.from_first }
+    pub fn ends(self, hand: &Hand<'_>) -> (usize, usize)
+        requires { self.line < length hand.now.pair.net.lines.now }
+        ensures tail { result.0 ≡ tail (line_at hand.now.pair.net.lines.now self.line) self.from_first }
+        ensures head { result.1 ≡ head (line_at hand.now.pair.net.lines.now self.line) self.from_first }
     {
-        let line = &net.lines[self.line];
+        let line = &hand.pair.net.lines[self.line];
         if self.from_first {
             (line.first as usize, line.second as usize)
         } else {
@@ -44,20 +45,21 @@ impl Way {
     }
 
     // Whether one more unit can go this way.
-    pub fn takes(self, net: &Network<'_>, marks: &[u8]) -> bool
-        requires listed { self.line < length net.now.lines.now }
-        requires marked { length marks.now ≡ length net.now.lines.now }
-        ensures { result ≡ arc net.now.lines.now marks.now self.line self.from_first }
+    pub fn takes(self, hand: &Hand<'_>) -> bool
+        requires { self.line < length hand.now.pair.net.lines.now }
+        ensures { result ≡ arc hand.now.pair.net.lines.now hand.now.marks.now self.line self.from_first }
     {
-        net.lines[self.line].is_free() && marks[self.line] != self.code()
+        hand.pair.net.lines[self.line].is_free() && hand.marks[self.line] != self.code()
     }
 
     // Sends one unit this way: an unused line starts to carry, one that carries the other way stops.
-    pub fn send(self, marks: &mut [u8])
-        requires { self.line < length marks.old }
-        ensures { marks.new ≡ sent_over marks.old self.line self.from_first }
+    pub fn send(self, hand: &mut Hand<'_>)
+        requires { self.line < length hand.old.pair.net.lines.now }
+        ensures same { SameHand hand.old hand.new }
+        ensures kept { hand.new.work.now ≡ hand.old.work.now }
+        ensures sent { hand.new.marks.now ≡ sent_over hand.old.marks.now self.line self.from_first }
     {
-        marks[self.line] = if marks[self.line] != 0 {
+        hand.marks[self.line] = if hand.marks[self.line] != 0 {
             0
         } else {
             self.code()
@@ -65,8 +67,11 @@ impl Way {
     }
 }
 
-pub fn clear_marks(marks: &mut [u8])
-    ensures { (k : ℕ) → k < length marks.new → mark_at marks.new k ≡ 0 }
-{
-    marks.fill(0);
+impl Hand<'_> {
+    pub fn clear_marks(&mut self)
+        ensures same { SameHand self.old self.new }
+        ensures cleared { (k : ℕ) → k < length self.new.marks.now → mark_at self.new.marks.now k ≡ 0 }
+    {
+        self.marks.fill(0);
+    }
 }

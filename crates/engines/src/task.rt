@@ -1,9 +1,10 @@
 //! Which calls an engine takes, and how it answers them.
 
-ghost use Rattle.std.specs.Prelude.{◌≡◌, ◌<◌, ◌≢◌, IfSome, IfNone};
+ghost use Rattle.std.specs.Prelude.{◌≡◌, ◌<◌, ◌≢◌, length, IfSome, IfNone};
 ghost use Rattle.network.specs.Answers.{Task, Flows, Answer};
-ghost use Rattle.engines.specs.Hands.{InHand};
+ghost use Rattle.engines.specs.Hands.{SameHand};
 
+use crate::hand::Hand;
 use network::{Flow, Line, Network, Pair, SiteWork};
 
 // The pair of places of a call that an engine takes; it declines every other.
@@ -27,12 +28,21 @@ fn taken<'a>(
     }
 }
 
-// How an engine works on a pair of places, with as many marks as there are lines and a record for each site. Marks and records
-// stay two slices: a struct of two `&mut` would add to each contract that it keeps both.
+// How an engine works on a pair of places, with marks and records for their network.
 pub trait Method {
-    fn run(pair: &Pair<'_>, marks: &mut [u8], work: &mut [SiteWork]) -> Flow
-        requires in_hand { InHand pair.now.net marks.old work.old }
-        ensures { Flows pair.now.net.sites pair.now.net.lines.now pair.now.a pair.now.b marks.old marks.new result.value result.side };
+    fn run(hand: &mut Hand<'_>) -> Flow
+        ensures same { SameHand hand.old hand.new }
+        ensures flows { Flows hand.old.pair.net.sites hand.old.pair.net.lines.now hand.old.pair.a hand.old.pair.b hand.old.marks.now hand.new.marks.now result.value result.side };
+}
+
+// What the method answers on the pair, with just as many marks and records as there are lines and sites.
+fn start<M: Method>(pair: Pair<'_>, marks: &mut [u8], work: &mut [SiteWork]) -> Flow
+    requires marked { length marks.old ≡ length pair.net.lines.now }
+    requires kept { length work.old ≡ pair.net.sites }
+    ensures sized { length marks.new ≡ length marks.old }
+    ensures flows { Flows pair.entry.net.sites pair.entry.net.lines.now pair.entry.a pair.entry.b marks.old marks.new result.value result.side }
+{
+    M::run(&mut Hand { pair, marks, work })
 }
 
 // Answers a call by the method, or declines it.
@@ -47,5 +57,5 @@ pub fn answer<M: Method>(
     ensures { Answer sites lines.now a b marks.old marks.new work.old work.new result }
 {
     let pair = taken(sites, lines, a, b, marks, work)?;
-    Some(M::run(&pair, &mut marks[..lines.len()], &mut work[..sites]))
+    Some(start::<M>(pair, &mut marks[..lines.len()], &mut work[..sites]))
 }

@@ -1,0 +1,15 @@
+//! What an engine has in hand while it works.
+
+ghost use Rattle.std.specs.Prelude.{◌≡◌, length};
+
+use network::{Pair, SiteWork};
+
+/// The pair of places that an engine works on, with a mark for each line of their network and a record for each site.
+#[derive(Drop)]
+pub struct Hand<'a> {
+    pub pair: Pair<'a>,
+    pub marks: &'a mut [u8],
+    pub work: &'a mut [SiteWork],
+    ghost marked: { length marks.now ≡ length pair.net.lines.now },
+    ghost kept: { length work.now ≡ pair.net.sites },
+}
