@@ -12,6 +12,7 @@ mod rules;
 mod say;
 mod spent;
 mod succession;
+mod trial;
 mod turn;
 mod unopened;
 mod walk;
@@ -19,37 +20,34 @@ mod worked;
 
 use desk::Desk;
 use engines::{Push, ShortestRoute};
-use lists::try_lists;
-use marks::try_marks;
 use network::Engine;
-use parallel::try_parallel;
-use spent::try_spent;
-use succession::try_succession;
-use unopened::try_unopened;
-use worked::try_worked;
+use trial::Trial;
 
 // Makes a trial at a desk of its own. Whatever comes of it, the desk is closed after it.
-fn on_new_desk<E: Engine, F: FnOnce(&HostRuntime, &mut Desk<E>) -> anyhow::Result<()>>(
+fn on_new_desk<E: Engine, F: FnOnce(&mut Trial<'_, E>) -> anyhow::Result<()>>(
     rt: &HostRuntime,
     trial: F,
 ) -> anyhow::Result<()>
     requires { F.IsAlwaysCallable trial }
 {
     let mut desk: Desk<E> = Desk::new(rt.alloc())?;
-    let ended = trial(rt, &mut desk);
+    let ended = trial(&mut Trial {
+        rt,
+        desk: &mut desk,
+    });
     desk.close();
     ended
 }
 
 fn try_all<E: Engine>(rt: &HostRuntime, name: &str) -> anyhow::Result<()> {
     println!(rt; "engine {name}")?;
-    on_new_desk(rt, try_worked::<E>)?;
-    on_new_desk(rt, try_unopened::<E>)?;
-    on_new_desk(rt, try_marks::<E>)?;
-    on_new_desk(rt, try_lists::<E>)?;
-    on_new_desk(rt, try_spent::<E>)?;
-    on_new_desk(rt, try_parallel::<E>)?;
-    on_new_desk(rt, try_succession::<E>)
+    on_new_desk::<E, _>(rt, |trial| trial.try_worked())?;
+    on_new_desk::<E, _>(rt, |trial| trial.try_unopened())?;
+    on_new_desk::<E, _>(rt, |trial| trial.try_marks())?;
+    on_new_desk::<E, _>(rt, |trial| trial.try_lists())?;
+    on_new_desk::<E, _>(rt, |trial| trial.try_spent())?;
+    on_new_desk::<E, _>(rt, |trial| trial.try_parallel())?;
+    on_new_desk::<E, _>(rt, |trial| trial.try_succession())
 }
 
 fn try_both(rt: &HostRuntime) -> anyhow::Result<()> {

@@ -2,19 +2,37 @@
 
 use crate::nets::WORKED;
 use crate::say::{say, say_answer, say_whether};
+use crate::trial::Trial;
 use crate::walk::held;
 use book::{Book, Denied, Fault};
 use desk::Desk;
 use network::Engine;
 
-pub fn try_marks<E: Engine>(rt: &HostRuntime, desk: &mut Desk<E>) -> anyhow::Result<()> {
-    println!(rt; " tickets of another book")?;
-    let mut other: Desk<E> = Desk::new(rt.alloc())?;
-    let ended = show_strangers(rt, desk, &mut other);
-    other.close();
-    ended?;
-    release_on_unopened::<E>(rt)?;
-    release_on_other::<E>(rt)
+impl<E: Engine> Trial<'_, E> {
+    pub fn try_marks(&mut self) -> anyhow::Result<()> {
+        println!(self.rt; " tickets of another book")?;
+        let mut other: Desk<E> = Desk::new(self.rt.alloc())?;
+        let ended = self.show_strangers(&mut other);
+        other.close();
+        ended?;
+        release_on_unopened::<E>(self.rt)?;
+        release_on_other::<E>(self.rt)
+    }
+
+    // Both have a booking 1, so that the marks alone tell the tickets apart. Before the other book is opened, its mark
+    // is 0 as that of the first, and no booking stands in it.
+    fn show_strangers(&mut self, other: &mut Desk<E>) -> anyhow::Result<()> {
+        let rt = self.rt;
+        self.open("open with mark 0", WORKED, 0)?;
+        self.book(30, 40, 1)?;
+        show_on(rt, "show on an unopened book", self.desk, other, 0)?;
+        say(rt, "open the other with mark 1", other.open(WORKED, 1))?;
+        say(rt, "book 30 40 1 there", other.book_routes(30, 40, 1))?;
+        show_on(rt, "show on the other book", self.desk, other, 0)?;
+        show_on(rt, "show that on this one", other, self.desk, 0)?;
+        show_on(rt, "show on its own book", self.desk, self.desk, 2)?;
+        show_on(rt, "show that on its own", other, other, 2)
+    }
 }
 
 // Shows the booking 1 of one desk on the book of another, which is to write so many numbers.
@@ -32,24 +50,6 @@ fn show_on<E: Engine>(
     }
     let untouched = list.iter().skip(written).all(|number| *number == 9);
     say_whether(rt, "the rest of the list", untouched)
-}
-
-// Both have a booking 1, so that the marks alone tell the tickets apart. Before the other book is opened, its mark is 0
-// as that of the first, and no booking stands in it.
-fn show_strangers<E: Engine>(
-    rt: &HostRuntime,
-    desk: &mut Desk<E>,
-    other: &mut Desk<E>,
-) -> anyhow::Result<()> {
-    say(rt, "open with mark 0", desk.open(WORKED, 0))?;
-    say(rt, "book 30 40 1", desk.book_routes(30, 40, 1))?;
-    show_on(rt, "show on an unopened book", desk, other, 0)?;
-    say(rt, "open the other with mark 1", other.open(WORKED, 1))?;
-    say(rt, "book 30 40 1 there", other.book_routes(30, 40, 1))?;
-    show_on(rt, "show on the other book", desk, other, 0)?;
-    show_on(rt, "show that on this one", other, desk, 0)?;
-    show_on(rt, "show on its own book", desk, desk, 2)?;
-    show_on(rt, "show that on its own", other, other, 2)
 }
 
 // Books a route on one book and tries to release it on the other, and then on its own, with the ticket that was handed

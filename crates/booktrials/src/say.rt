@@ -1,6 +1,7 @@
 //! What the trials print, a line each.
 
-use book::{Book, Cut, Fault};
+use crate::trial::Trial;
+use book::{Cut, Fault};
 use network::Engine;
 use std::fmt;
 use std::fmt::Display;
@@ -69,7 +70,11 @@ pub fn say_answer<C: Display + Drop, T: Display + Drop>(
 }
 
 /// Says whether a call was accepted.
-pub fn say<T: Drop>(rt: &HostRuntime, call: &str, answer: Result<T, Fault>) -> anyhow::Result<()> {
+pub fn say<C: Display + Drop, T: Drop>(
+    rt: &HostRuntime,
+    call: C,
+    answer: Result<T, Fault>,
+) -> anyhow::Result<()> {
     say_answer(rt, call, answer.map(|_| "accepted"))
 }
 
@@ -80,44 +85,40 @@ pub fn say_whether(rt: &HostRuntime, what: &str, holds: bool) -> anyhow::Result<
     Ok(())
 }
 
-/// Says a level.
-pub fn say_level<E>(
-    rt: &HostRuntime,
-    book: &Book<E>,
-    first: u16,
-    second: u16,
-) -> anyhow::Result<()> {
-    let level = book.level(first, second);
-    say_answer(rt, format_args!("level {first} {second}"), level)
-}
-
-/// Says a cut, the side by its binary digits.
-pub fn say_cut<E: Engine>(
-    rt: &HostRuntime,
-    book: &Book<E>,
-    first: u16,
-    second: u16,
-) -> anyhow::Result<()> {
-    let cut = book.cut(first, second).map(ShownCut);
-    say_answer(rt, format_args!("cut {first} {second}"), cut)
-}
-
-/// Says a group list.
-pub fn say_groups<E>(rt: &HostRuntime, book: &Book<E>, k: u32) -> anyhow::Result<()> {
-    let mut list = [0u16; 64];
-    let count = book.groups(k, &mut list);
-    let entries = list.get(..book.sites().len()).unwrap_or(&list);
-    let groups = count.map(|count| Groups { count, entries });
-    say_answer(rt, format_args!("groups {k}"), groups)
-}
-
-/// Says which lines are held.
-pub fn say_held<E>(rt: &HostRuntime, book: &Book<E>) -> anyhow::Result<()> {
-    print!(rt; "  held lines:")?;
-    for line in book.lines().iter().filter(|line| !line.is_free()) {
-        let number = line.number;
-        print!(rt; " {number}")?;
+impl<E> Trial<'_, E> {
+    /// Says a level.
+    pub fn say_level(&self, first: u16, second: u16) -> anyhow::Result<()> {
+        let level = self.desk.book().level(first, second);
+        say_answer(self.rt, format_args!("level {first} {second}"), level)
     }
-    println!(rt; "")?;
-    Ok(())
+
+    /// Says a group list.
+    pub fn say_groups(&self, k: u32) -> anyhow::Result<()> {
+        let book = self.desk.book();
+        let mut list = [0u16; 64];
+        let count = book.groups(k, &mut list);
+        let entries = list.get(..book.sites().len()).unwrap_or(&list);
+        let groups = count.map(|count| Groups { count, entries });
+        say_answer(self.rt, format_args!("groups {k}"), groups)
+    }
+
+    /// Says which lines are held.
+    pub fn say_held(&self) -> anyhow::Result<()> {
+        print!(self.rt; "  held lines:")?;
+        let lines = self.desk.book().lines();
+        for line in lines.iter().filter(|line| !line.is_free()) {
+            let number = line.number;
+            print!(self.rt; " {number}")?;
+        }
+        println!(self.rt; "")?;
+        Ok(())
+    }
+}
+
+impl<E: Engine> Trial<'_, E> {
+    /// Says a cut, the side by its binary digits.
+    pub fn say_cut(&self, first: u16, second: u16) -> anyhow::Result<()> {
+        let cut = self.desk.book().cut(first, second).map(ShownCut);
+        say_answer(self.rt, format_args!("cut {first} {second}"), cut)
+    }
 }

@@ -17,6 +17,7 @@ const MOST_SHOWN: usize = 80;
 /// A desk whose calls are chosen by dice, and what they came to.
 #[derive(Drop)]
 pub struct Succession<'a, E> {
+    pub heap: Global,
     pub desk: &'a mut Desk<E>,
     pub dice: Dice,
     pub log: Log,
@@ -24,11 +25,11 @@ pub struct Succession<'a, E> {
 
 impl<E: Engine> Succession<'_, E> {
     /// Makes one call, chosen by the dice, and holds what came against the rules.
-    pub fn take_turn(&mut self, heap: Global) -> Result<(), AllocError> {
+    pub fn take_turn(&mut self) -> Result<(), AllocError> {
         // An enum of the five calls between the dice and these arms would only name each call twice.
         match self.dice.below(10) {
-            0..=3 => self.book(heap)?,
-            4..=6 => self.release(heap)?,
+            0..=3 => self.book()?,
+            4..=6 => self.release()?,
             7 => self.show(),
             8 => self.ask(),
             _ => self.list(),
@@ -65,15 +66,15 @@ impl<E: Engine> Succession<'_, E> {
         }
     }
 
-    fn book(&mut self, heap: Global) -> Result<(), AllocError> {
+    fn book(&mut self) -> Result<(), AllocError> {
         let ends = self.any_ends();
         let k = u32::from(self.dice.below(5));
         let wish = Wish { ends, k };
-        let before = self.desk.book().lines().to_vec(heap)?;
+        let before = self.desk.book().lines().to_vec(self.heap)?;
         let check = wish.check(self.desk.book());
         match self.desk.book_routes(ends.first, ends.second, k) {
             Ok(number) => {
-                let right = self.accepted_rightly(heap, wish, number, &before)?;
+                let right = self.accepted_rightly(wish, number, &before)?;
                 self.log.note(Kind::Booked, right && check.is_ok());
             }
             Err(fault) => {
@@ -89,7 +90,6 @@ impl<E: Engine> Succession<'_, E> {
     // Whether a booking has the next number and shows as many routes as were asked for; it is put down.
     fn accepted_rightly(
         &mut self,
-        heap: Global,
         wish: Wish,
         number: u16,
         before: &[Line],
@@ -100,7 +100,7 @@ impl<E: Engine> Succession<'_, E> {
         let next = self.log.last.saturating_add(1);
         self.log.last = number;
         self.log.held = self.log.held.saturating_add(held_by(after, number));
-        self.log.shown.insert(number, shown.to_vec(heap)?)?;
+        self.log.shown.insert(number, shown.to_vec(self.heap)?)?;
         let Some((first, second)) = wish.ends.places() else {
             return Ok(false);
         };
@@ -114,9 +114,9 @@ impl<E: Engine> Succession<'_, E> {
         Ok(number == next && walked(booking, shown) == Some(wish.k as usize))
     }
 
-    fn release(&mut self, heap: Global) -> Result<(), AllocError> {
+    fn release(&mut self) -> Result<(), AllocError> {
         let number = self.any_number();
-        let before = self.desk.book().lines().to_vec(heap)?;
+        let before = self.desk.book().lines().to_vec(self.heap)?;
         let lines = held_by(&before, number);
         if self.desk.release(number) {
             let right = lines > 0 && freed_rightly(&before, self.desk.book().lines(), number);
