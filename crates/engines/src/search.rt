@@ -45,7 +45,8 @@ impl Hand<'_> {
     }
 
     // Whether the layers of the two ends of the line add up to the layer, as they do where one end is at it and the other
-    // is not seen. Most lines are passed by on this one test.
+    // is not seen. Most lines are passed by on this one test. It casts by `as`, here and elsewhere in the engines: after `from`
+    // the check no longer knows that a sum of two layers fits.
     fn may_reach(&self, line: &Line, layer: u16) -> bool
         requires { Joins self.now.pair.net.sites line.now }
         ensures { result ≡ adds_up layer line.now self.now.work.now }

@@ -5,7 +5,7 @@ ghost use Rattle.network.specs.Answers.{Task, Flows, Answer};
 ghost use Rattle.engines.specs.Hands.{SameHand};
 
 use crate::hand::Hand;
-use network::{Flow, Line, Network, Pair, SiteWork};
+use network::{Flow, Line, Pair, SiteWork};
 
 // The pair of places of a call that an engine takes; it declines every other.
 fn taken<'a>(
@@ -20,9 +20,9 @@ fn taken<'a>(
     ensures asked { IfSome result (λ q. (q.net.sites ≡ sites) × (q.net.lines.now ≡ lines.now) × (q.a ≡ a) × (q.b ≡ b)) }
     ensures declined { IfNone result (Task sites lines.now a b marks.now work.now → ⊥) }
 {
-    let net = Network::new(sites, lines)?;
-    if a != b && a < sites && b < sites && lines.len() <= marks.len() && sites <= work.len() {
-        Some(Pair { net, a, b })
+    let pair = Pair::new(sites, lines, a, b)?;
+    if lines.len() <= marks.len() && sites <= work.len() {
+        Some(pair)
     } else {
         None
     }
