@@ -1,5 +1,5 @@
 -- From a copy of the marks back to the marks, and from the routes to the answer.
-use Rattle.std.proofs.Common.{◌≡◌, ℕ, ◌<◌, ◌≤◌, true, not, eqb, List, ◌++◌, length, take, drop, Some, None, Option, sym, ap, ◌∙◌, inl, inr, arith, MatchOption}
+use Rattle.std.proofs.Common.{◌≡◌, ℕ, ◌<◌, ◌≤◌, true, not, eqb, List, ◌++◌, length, take, drop, Some, None, Option, sym, refl, ap, ◌∙◌, inl, inr, arith, MatchOption}
 use Rattle.std.proofs.lemmas.Bool.{cases_lt, cases_Bool, both_ways}
 use Rattle.std.proofs.lemmas.List.{length-take, length-drop, take-append-drop, get_or-take, get_or_past}
 use Rattle.network.specs.declared.line.Line.{Line}
@@ -10,7 +10,7 @@ use Rattle.network.proofs.Sums.{outs_front, ins_front}
 use Rattle.routes.specs.declared.marking.Marking.{Marking}
 use Rattle.routes.specs.Taking.{carrying, listed, Chosen, TakenBy}
 use Rattle.routes.specs.Shapes.{PairOf, Ready}
-use Rattle.routes.specs.Walks.{picked}
+use Rattle.routes.specs.Walks.{picked, Supplies}
 use Rattle.routes.specs.Draws.{Drawn}
 use Rattle.routes.proofs.Balances.{of_pair, ready_fit}
 use Rattle.routes.proofs.Drawing.{all_weaker, picked_was}
@@ -20,7 +20,7 @@ module _ (ls : List Line) (ms : List ℕ) (m : ℕ) (same : m ≡ length ls) (ro
   long : length ls ≤ length (take m ms)
   long = simp length-take (omega arith)
 
-  pub front_balanced : (a b v : ℕ) → Balanced ls ms a b v → Balanced ls (take m ms) a b v
+  front_balanced : (a b v : ℕ) → Balanced ls ms a b v → Balanced ls (take m ms) a b v
   front_balanced a b v h p =
       let whole = take-append-drop m ms in
       let o : outs (eqb p) ls ms ≡ outs (eqb p) ls (take m ms) = ap (outs (eqb p) ls) (sym whole) ∙ outs_front (eqb p) ls (take m ms) (drop m ms) long in
@@ -57,6 +57,16 @@ module _ (ls : List Line) (ms : List ℕ) (m : ℕ) (same : m ≡ length ls) (ro
         carry = all_weaker (picked (take m ms) ms') (carrying ms) rs (λ p e. front_carrying p (picked_was (take m ms) ms' p e)) h.out;
         short = omega (arith, h.fewer, ap length h.stands, length-drop top store);
       }
+
+pub front_supplies : (q : Pair) (ms : List ℕ) (v k : ℕ) → Ready q ms v k → Supplies q (take (length q.net.lines.now) ms) k
+front_supplies q ms v k ready =
+    let ls = q.net.lines.now in
+    record {
+      room = simp length-take (omega (arith, ready.marks_room));
+      most = v;
+      enough = ready.enough;
+      balanced = front_balanced ls ms (length ls) refl ready.marks_room q.a q.b v ready.carried.balanced;
+    }
 
 -- what is written, or not
 pub taken : (m : Marking) (q : Pair) (k : ℕ) (rs : List (List ℕ)) (xs xs' numbers : List ℕ) (r : Option ℕ)

@@ -3,13 +3,14 @@ use Rattle.std.proofs.Common.{◌≡◌, ℕ, suc, ◌+◌, ◌-◌, ◌<◌, �
 use Rattle.std.proofs.lemmas.Bool.{and_parts, and_from, not_from_true}
 use Rattle.std.proofs.lemmas.List.{drop_all, drop-set, drop-append-le, length-drop, length-append, length-set, map-id}
 use Rattle.network.specs.declared.line.Line.{Line}
+use Rattle.network.specs.declared.pair.Pair.{Pair}
 use Rattle.network.specs.Lists.{every, meet}
 use Rattle.network.specs.Routes.{route, meets_any, written}
 use Rattle.network.specs.Flow.{Balanced}
 use Rattle.network.proofs.Chains.{route_from, meets_any_none, meets_any_cons, separate_none, separate_cons}
 use Rattle.network.proofs.Lists.{every_weaker, every_cons, every_parts, every_none, among_by_test, meet_none, meet_cons}
 use Rattle.routes.specs.Taking.{carrying, listed}
-use Rattle.routes.specs.Walks.{picked, Kept, Back}
+use Rattle.routes.specs.Walks.{picked, Kept, Supplies, Back}
 use Rattle.routes.specs.Draws.{Drawn}
 use Rattle.routes.proofs.Steps.{carriers_le, kept_trans, picked_more, underway_end}
 
@@ -105,9 +106,21 @@ module _ (ls : List Line) (ms ms' ms'' : List ℕ) (a b i : ℕ) (rs : List (Lis
       subst (λ t. Drawn ls ms ms'' a b (i + 1) (drop start path ∷ rs) store' t) (sym at)
       (subst (λ xs. Drawn ls ms ms'' a b (i + 1) (drop start path ∷ rs) xs (start - 1)) whole (drawn_more pos))
 
--- a unit to spend, and one fewer to carry after the walk
+-- a unit to spend, of those that are supplied
 pub to_spend : (ls : List Line) (ms : List ℕ) (a b v : ℕ) → 0 < v → Balanced ls ms a b v → Balanced ls ms a b (suc (v - 1))
 to_spend ls ms a b v pos h = let e : v ≡ suc (v - 1) = omega arith in subst (λ u. Balanced ls ms a b u) e h
 
-pub spent : (ls : List Line) (ms ms' : List ℕ) (a b v : ℕ) (path : List ℕ) (start : ℕ) → 0 < v → Balanced ls ms a b v → Back ls ms ms' a b a path start → Balanced ls ms' a b (v - 1)
-spent ls ms ms' a b v path start pos h walked = underway_end ls ms' a b (v - 1) (walked.underway (v - 1) (to_spend ls ms a b v pos h))
+pub supplies_fewer : (q : Pair) (ms : List ℕ) (k j : ℕ) → j ≤ k → Supplies q ms k → Supplies q ms j
+supplies_fewer q ms k j le h = record { room = h.room; most = h.most; enough = omega (arith, le, h.enough); balanced = h.balanced }
+
+-- one fewer after the walk
+pub supplies_after : (q : Pair) (ms ms' : List ℕ) (k : ℕ) (path : List ℕ) (start : ℕ) → 0 < k → length ms' ≡ length ms
+    → Supplies q ms k → Back q.net.lines.now ms ms' q.a q.b q.a path start → Supplies q ms' (k - 1)
+supplies_after q ms ms' k path start pos same h walked =
+    let v = h.most - 1 in
+    record {
+      room = omega (arith, h.room, same);
+      most = v;
+      enough = omega (arith, h.enough);
+      balanced = underway_end q.net.lines.now ms' q.a q.b v (walked.underway v (to_spend q.net.lines.now ms q.a q.b h.most (omega (arith, pos, h.enough)) h.balanced));
+    }

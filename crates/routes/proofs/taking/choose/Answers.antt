@@ -1,20 +1,13 @@
 use Rattle.std.proofs.Common.{length, sym, refl, subst}
-use Rattle.network.specs.Flow.{Balanced}
+use Rattle.routes.specs.Walks.{Supplies}
 use Rattle.routes.specs.Draws.{Drawn}
-use Rattle.routes.proofs.Choosing.{front_balanced, drawn_chosen}
+use Rattle.routes.proofs.Choosing.{front_supplies, drawn_chosen}
 use Rattle.routes.proofs.taking.choose.Goals as goal
 
-pub draw-requires-clause-flows : goal.draw-requires-clause-flows
-draw-requires-clause-flows c =
-    let v = c.requires.ready.0 in
-    let ready = c.requires.ready.1 in
-    let pair = c.args.pair.now in
-    let lines = pair.net.lines.now in (
-      v,
-      ready.enough,
-      subst (λ ms. Balanced lines ms pair.a pair.b v) (sym c.copy_from_slice.ensures.after)
-          (front_balanced lines c.args.marks.now (length lines) refl ready.marks_room pair.a pair.b v ready.carried.balanced),
-    )
+pub draw-requires-clause-supplies : goal.draw-requires-clause-supplies
+draw-requires-clause-supplies c =
+    subst (λ ms. Supplies c.args.pair.now ms c.args.k) (sym c.copy_from_slice.ensures.after)
+    (front_supplies c.args.pair.now c.args.marks.now c.requires.ready.0 c.args.k c.requires.ready.1)
 
 pub returns-clause-chosen : goal.returns-clause-chosen
 returns-clause-chosen c =

@@ -1,9 +1,10 @@
-use Rattle.std.proofs.Common.{◌≡◌, suc, true, set, sym, ap, ◌∙◌, subst, arith}
+use Rattle.std.proofs.Common.{◌≡◌, ◌-◌, suc, true, set, sym, ap, ◌∙◌, subst, arith}
 use Rattle.network.specs.Lines.{line_at}
 use Rattle.network.specs.Flow.{mark_at}
 use Rattle.network.specs.Routes.{touches, other_end}
 use Rattle.routes.specs.Walks.{Back, carriers}
 use Rattle.routes.proofs.Steps.{back_start, underway_comes, step_back, step_fewer, comes_touching, comes_leading, far_is_source}
+use Rattle.routes.proofs.Drawing.{to_spend}
 use Rattle.routes.proofs.walking.walk.Goals as goal
 use Rattle.routes.proofs.walking.walk.Goals.{After-far_end-before}
 
@@ -12,8 +13,11 @@ back-init c = back_start c.args.pair.now.net.lines.now c.args.left.now c.args.pa
 
 pub arriving-line-requires : goal.arriving-line-requires
 arriving-line-requires c =
-    let v = c.requires.flows.0 in
-    underway_comes c.args.pair.now.net.lines.now c.back.left c.args.pair.now.a c.args.pair.now.b c.back.place v c.back-test.true (c.back.invariant.underway v c.requires.flows.1)
+    let supplies = c.requires.supplies in
+    let pair = c.args.pair.now in
+    let v = supplies.most - 1 in
+    underway_comes pair.net.lines.now c.back.left pair.a pair.b c.back.place v c.back-test.true
+    (c.back.invariant.underway v (to_spend pair.net.lines.now c.args.left.now pair.a pair.b supplies.most (omega (arith, supplies.enough)) supplies.balanced))
 
 -- the line that is taken out carried
 fewer : (c : After-far_end-before) → carriers c.args.pair.now.net.lines.now c.back.left ≡ suc (carriers c.args.pair.now.net.lines.now (set c.back.left c.arriving-line.result 0))
