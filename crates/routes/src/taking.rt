@@ -31,7 +31,7 @@ fn put_count(store: &mut [u16], start: usize, top: usize) -> usize
 fn draw(pair: &Pair<'_>, left: &mut [u8], k: usize, store: &mut [u16]) -> usize
     requires supplies { Supplies pair.now left.old k }
     requires space { k + length pair.now.net.lines.now ≤ length store.old }
-    ensures { (rs : List (List ℕ)) × Drawn pair.now.net.lines.now left.old left.new pair.now.a pair.now.b k rs store.new result }
+    ensures { (rs : List (List ℕ)) × Drawn pair.now left.old left.new k rs store.new result }
 {
     let mut top = store.len();
     for _done in 0..k {

@@ -80,7 +80,7 @@ fn take_out(left: &mut [u8], line: usize)
 pub fn walk(pair: &Pair<'_>, left: &mut [u8], path: &mut [u16]) -> usize
     requires supplies { Supplies pair.now left.old 1 }
     requires space { carriers pair.now.net.lines.now left.old ≤ length path.old }
-    ensures { Back pair.now.net.lines.now left.old left.new pair.now.a pair.now.b pair.now.a path.new result }
+    ensures { Back pair.now left.old left.new pair.now.a path.new result }
 {
     let mut top = path.len();
     let mut place = pair.b;

@@ -1,4 +1,4 @@
-use Rattle.std.proofs.Common.{length, sym, refl, subst}
+use Rattle.std.proofs.Common.{sym, subst}
 use Rattle.routes.specs.Walks.{Supplies}
 use Rattle.routes.specs.Draws.{Drawn}
 use Rattle.routes.proofs.Choosing.{front_supplies, drawn_chosen}
@@ -13,11 +13,10 @@ pub returns-clause-chosen : goal.returns-clause-chosen
 returns-clause-chosen c =
     let ready = c.requires.ready.1 in
     let pair = c.args.pair.now in
-    let lines = pair.net.lines.now in
     let rs = c.draw.ensures.0 in (
       rs,
-      drawn_chosen lines c.args.marks.now (length lines) refl ready.marks_room pair.a pair.b c.args.k
+      drawn_chosen pair c.args.marks.now ready.marks_room c.args.k
           c.draw.new.left rs c.draw.new.store c.draw.result ready.carried.marked
-          (subst (λ ms. Drawn lines ms c.draw.new.left pair.a pair.b c.args.k rs c.draw.new.store c.draw.result) c.copy_from_slice.ensures.after c.draw.ensures.1),
+          (subst (λ ms. Drawn pair ms c.draw.new.left c.args.k rs c.draw.new.store c.draw.result) c.copy_from_slice.ensures.after c.draw.ensures.1),
       c.draw.ensures.1.stands,
     )

@@ -6,7 +6,7 @@ use Rattle.routes.proofs.taking.draw.Goals.{After-walk-start}
 
 pub loop-done-init : goal.loop-done-init
 loop-done-init c = (
-  ([], drawn_none c.args.pair.now.net.lines.now c.args.left.now c.args.pair.now.a c.args.pair.now.b c.args.store.now),
+  ([], drawn_none c.args.pair.now c.args.left.now c.args.store.now),
   supplies_fewer c.args.pair.now c.args.left.now c.args.k (c.args.k - 0) (omega arith) c.requires.supplies,
 )
 
@@ -23,13 +23,13 @@ size c = c.walk-start.auto.path ∙ simp length-take (omega (arith, c.loop-done.
 
 room : (c : After-walk-start) → 0 < c.walk-start.result
 room c =
-    drawn_room c.args.pair.now.net.lines.now c.args.left.now c.loop-done.left c.walk-start.new.left c.args.pair.now.a c.args.pair.now.b c.loop-done._done
+    drawn_room c.args.pair.now c.args.left.now c.loop-done.left c.walk-start.new.left c.loop-done._done
     c.loop-done.invariant.0.0 c.loop-done.store c.loop-done.top c.walk-start.new.path c.walk-start.result c.loop-done.invariant.0.1 c.walk-start.ensures (size c)
     (omega (arith, c.requires.space))
 
 count : (c : After-walk-start) → c.loop-done.top - c.walk-start.result ≤ length c.args.pair.now.net.lines.now
 count c =
-    drawn_count c.args.pair.now.net.lines.now c.args.left.now c.loop-done.left c.walk-start.new.left c.args.pair.now.a c.args.pair.now.b c.loop-done._done
+    drawn_count c.args.pair.now c.args.left.now c.loop-done.left c.walk-start.new.left c.loop-done._done
     c.loop-done.invariant.0.0 c.loop-done.store c.loop-done.top c.walk-start.new.path c.walk-start.result c.loop-done.invariant.0.1 c.walk-start.ensures (size c)
 
 pub put_count-top-requires : goal.put_count-top-requires
@@ -48,7 +48,7 @@ loop-done-preserved c =
     let rs = drop c.walk-start.result c.walk-start.new.path ∷ c.loop-done.invariant.0.0 in (
       (
         rs,
-        drawn_by c.args.pair.now.net.lines.now c.args.left.now c.loop-done.left c.walk-start.new.left c.args.pair.now.a c.args.pair.now.b c.loop-done._done
+        drawn_by c.args.pair.now c.args.left.now c.loop-done.left c.walk-start.new.left c.loop-done._done
             c.loop-done.invariant.0.0 c.loop-done.store c.loop-done.top c.walk-start.new.path c.walk-start.result c.loop-done.invariant.0.1 c.walk-start.ensures (size here)
             c.loop-done.top c.put_count-top.new.store c.put_count-top.result refl (room here) c.put_count-top.ensures.after c.put_count-top.ensures.place,
       ),

@@ -5,5 +5,5 @@ use Rattle.routes.proofs.taking.draw.Given as goal
 
 abbrev pub invariant-loop-done : goal.invariant-loop-done
 invariant-loop-done l =
-    ((rs : List (List ℕ)) × Drawn l.pair.net.lines.now l.initial.left l.left l.pair.a l.pair.b l._done rs l.store l.top)
+    ((rs : List (List ℕ)) × Drawn l.pair l.initial.left l.left l._done rs l.store l.top)
     × Supplies l.pair l.left (l.k - l._done)
