@@ -75,8 +75,8 @@ fn take_out(left: &mut [u8], line: usize)
     left[line] = 0;
 }
 
-/// Takes one route between the two places out of the lines that still carry. It stands in `path` from the answered place on: the
-/// path is lent, since no route is allocated, and fills from its end.
+/// Takes one route between the two places out of the lines that still carry. It stands in `path` from the answered
+/// place on: the path is lent, since no route is allocated, and fills from its end.
 pub fn walk(pair: &Pair<'_>, left: &mut [u8], path: &mut [u16]) -> usize
     requires supplies { Supplies pair.now left.old 1 }
     requires space { carriers pair.now.net.lines.now left.old ≤ length path.old }

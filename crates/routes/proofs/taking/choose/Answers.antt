@@ -1,6 +1,5 @@
 use Rattle.std.proofs.Common.{sym, subst}
 use Rattle.routes.specs.Walks.{Supplies}
-use Rattle.routes.specs.Draws.{Drawn}
 use Rattle.routes.proofs.Choosing.{front_supplies, drawn_chosen}
 use Rattle.routes.proofs.taking.choose.Goals as goal
 
@@ -11,12 +10,9 @@ draw-requires-clause-supplies c =
 
 pub returns-clause-chosen : goal.returns-clause-chosen
 returns-clause-chosen c =
-    let ready = c.requires.ready.1 in
-    let pair = c.args.pair.now in
     let rs = c.draw.ensures.0 in (
       rs,
-      drawn_chosen pair c.args.marks.now ready.marks_room c.args.k
-          c.draw.new.left rs c.draw.new.store c.draw.result ready.carried.marked
-          (subst (λ ms. Drawn pair ms c.draw.new.left c.args.k rs c.draw.new.store c.draw.result) c.copy_from_slice.ensures.after c.draw.ensures.1),
+      drawn_chosen c.args.pair.now c.args.marks.now c.requires.ready.0 c.args.k c.requires.ready.1 _ c.draw.new.left rs c.draw.new.store c.draw.result
+          c.copy_from_slice.ensures.after c.draw.ensures.1,
       c.draw.ensures.1.stands,
     )
