@@ -3,13 +3,14 @@ use Rattle.std.proofs.Common.{◌≡◌, ℕ, suc, ◌+◌, ◌-◌, ◌<◌, �
 use Rattle.std.proofs.lemmas.Bool.{and_parts, and_from, not_from_true}
 use Rattle.std.proofs.lemmas.List.{drop_all, drop-set, drop-append-le, length-drop, length-append, length-set, map-id}
 use Rattle.network.specs.declared.line.Line.{Line}
+use Rattle.network.specs.declared.pair.Pair.{Pair}
 use Rattle.network.specs.Lists.{every, meet}
 use Rattle.network.specs.Routes.{route, meets_any, written}
 use Rattle.network.specs.Flow.{Balanced}
 use Rattle.network.proofs.Chains.{route_from, meets_any_none, meets_any_cons, separate_none, separate_cons}
 use Rattle.network.proofs.Lists.{every_weaker, every_cons, every_parts, every_none, among_by_test, meet_none, meet_cons}
 use Rattle.routes.specs.Taking.{carrying, listed}
-use Rattle.routes.specs.Walks.{picked, Kept, Back}
+use Rattle.routes.specs.Walks.{picked, Kept, Supplies, Back}
 use Rattle.routes.specs.Draws.{Drawn}
 use Rattle.routes.proofs.Steps.{carriers_le, kept_trans, picked_more, underway_end}
 
@@ -39,18 +40,18 @@ picked_not ms ms' p h = (and_parts (carrying ms p) (not (carrying ms' p)) h).1
 picked_wider : (ms ms' ms'' : List ℕ) (p : ℕ) → Kept ms ms' → picked ms' ms'' p ≡ true → picked ms ms'' p ≡ true
 picked_wider ms ms' ms'' p h e = and_from (carrying ms p) (not (carrying ms'' p)) (h p (picked_was ms' ms'' p e)) (picked_not ms' ms'' p e)
 
-pub drawn_none : (ls : List Line) (ms : List ℕ) (a b : ℕ) (store : List ℕ) → Drawn ls ms ms a b 0 [] store (length store)
+pub drawn_none : (q : Pair) (ms : List ℕ) (store : List ℕ) → Drawn q ms ms 0 [] store (length store)
 unfolding written
-drawn_none ls ms a b store =
+drawn_none q ms store =
     record {
       many = refl;
       stands = drop_all (length store) store (omega arith);
       within = omega arith;
-      routes = every_none (route ls a b);
+      routes = every_none (route q.net.lines.now q.a q.b);
       apart = separate_none;
       out = every_none (every (picked ms ms));
       kept = λ p e. e;
-      fewer = omega (arith, carriers_le ls ms);
+      fewer = omega (arith, carriers_le q.net.lines.now ms);
     }
 
 listed_cons : (r : List ℕ) (rs : List (List ℕ)) → listed (r ∷ rs) ≡ length r ∷ (r ++ listed rs)
@@ -58,13 +59,13 @@ unfolding written
 listed_cons r rs = ap (λ xs. length r ∷ (xs ++ listed rs)) (map-id r)
 
 -- one route more: it stands at the end of the part of the store before the top, and its count is put before it
-module _ (ls : List Line) (ms ms' ms'' : List ℕ) (a b i : ℕ) (rs : List (List ℕ)) (store : List ℕ) (top : ℕ) (path : List ℕ) (start : ℕ)
-    (drawn : Drawn ls ms ms' a b i rs store top) (walked : Back ls ms' ms'' a b a path start) (part : length path ≡ top) where
-  pub drawn_room : i + length ls < length store → 0 < start
+module _ (q : Pair) (ms ms' ms'' : List ℕ) (i : ℕ) (rs : List (List ℕ)) (store : List ℕ) (top : ℕ) (path : List ℕ) (start : ℕ)
+    (drawn : Drawn q ms ms' i rs store top) (walked : Back q ms' ms'' q.a path start) (part : length path ≡ top) where
+  pub drawn_room : i + length q.net.lines.now < length store → 0 < start
   drawn_room l = omega (arith, drawn.fewer, drawn.within, walked.fewer, walked.within)
 
-  pub drawn_count : top - start ≤ length ls
-  drawn_count = omega (arith, walked.fewer, carriers_le ls ms')
+  pub drawn_count : top - start ≤ length q.net.lines.now
+  drawn_count = omega (arith, walked.fewer, carriers_le q.net.lines.now ms')
 
   stands : 0 < start → drop (start - 1) (set (path ++ drop top store) (start - 1) (top - start)) ≡ listed (drop start path ∷ rs)
   stands pos =
@@ -77,7 +78,7 @@ module _ (ls : List Line) (ms ms' ms'' : List ℕ) (a b i : ℕ) (rs : List (Lis
       ∙ ap (λ n. n ∷ (drop start path ++ listed rs)) (sym count)
       ∙ sym (listed_cons (drop start path) rs)
 
-  drawn_more : 0 < start → Drawn ls ms ms'' a b (i + 1) (drop start path ∷ rs) (set (path ++ drop top store) (start - 1) (top - start)) (start - 1)
+  drawn_more : 0 < start → Drawn q ms ms'' (i + 1) (drop start path ∷ rs) (set (path ++ drop top store) (start - 1) (top - start)) (start - 1)
   drawn_more pos =
       let size : length (set (path ++ drop top store) (start - 1) (top - start)) ≡ length store =
       length-set (path ++ drop top store) (start - 1) (top - start) ∙ length-append path (drop top store) ∙ (let d = length-drop top store in omega (arith, drawn.within)) in
@@ -85,7 +86,7 @@ module _ (ls : List Line) (ms ms' ms'' : List ℕ) (a b i : ℕ) (rs : List (Lis
         many = omega (arith, drawn.many);
         stands = stands pos;
         within = omega (arith, walked.within, drawn.within);
-        routes = every_cons (route ls a b) (drop start path) rs (route_from ls a b (drop start path) walked.led.chain walked.led.ends walked.led.simple) drawn.routes;
+        routes = every_cons (route q.net.lines.now q.a q.b) (drop start path) rs (route_from q.net.lines.now q.a q.b (drop start path) walked.led.chain walked.led.ends walked.led.simple) drawn.routes;
         apart = separate_cons (drop start path) rs
             (meets_none (carrying ms') (drop start path) rs (every_weaker (picked ms' ms'') (carrying ms') (drop start path) (picked_was ms' ms'') walked.led.each)
             (all_weaker (picked ms ms') (λ p. not (carrying ms' p)) rs (picked_not ms ms') drawn.out))
@@ -99,15 +100,27 @@ module _ (ls : List Line) (ms ms' ms'' : List ℕ) (a b i : ℕ) (rs : List (Lis
 
   -- .. as the code tells it: the part cut off at the top, the store after, and where it begins
   pub drawn_by : (cut : ℕ) (store' : List ℕ) (top' : ℕ) → top ≡ cut → 0 < start → store' ≡ set (path ++ drop cut store) (start - 1) (top - start) → top' ≡ start - 1
-      → Drawn ls ms ms'' a b (i + 1) (drop start path ∷ rs) store' top'
+      → Drawn q ms ms'' (i + 1) (drop start path ∷ rs) store' top'
   drawn_by cut store' top' e pos after at =
       let whole : set (path ++ drop top store) (start - 1) (top - start) ≡ store' = ap (λ j. set (path ++ drop j store) (start - 1) (top - start)) e ∙ sym after in
-      subst (λ t. Drawn ls ms ms'' a b (i + 1) (drop start path ∷ rs) store' t) (sym at)
-      (subst (λ xs. Drawn ls ms ms'' a b (i + 1) (drop start path ∷ rs) xs (start - 1)) whole (drawn_more pos))
+      subst (λ t. Drawn q ms ms'' (i + 1) (drop start path ∷ rs) store' t) (sym at)
+      (subst (λ xs. Drawn q ms ms'' (i + 1) (drop start path ∷ rs) xs (start - 1)) whole (drawn_more pos))
 
--- a unit to spend, and one fewer to carry after the walk
+-- a unit to spend, of those that are supplied
 pub to_spend : (ls : List Line) (ms : List ℕ) (a b v : ℕ) → 0 < v → Balanced ls ms a b v → Balanced ls ms a b (suc (v - 1))
 to_spend ls ms a b v pos h = let e : v ≡ suc (v - 1) = omega arith in subst (λ u. Balanced ls ms a b u) e h
 
-pub spent : (ls : List Line) (ms ms' : List ℕ) (a b v : ℕ) (path : List ℕ) (start : ℕ) → 0 < v → Balanced ls ms a b v → Back ls ms ms' a b a path start → Balanced ls ms' a b (v - 1)
-spent ls ms ms' a b v path start pos h walked = underway_end ls ms' a b (v - 1) (walked.underway (v - 1) (to_spend ls ms a b v pos h))
+pub supplies_fewer : (q : Pair) (ms : List ℕ) (k j : ℕ) → j ≤ k → Supplies q ms k → Supplies q ms j
+supplies_fewer q ms k j le h = record { room = h.room; most = h.most; enough = omega (arith, le, h.enough); balanced = h.balanced }
+
+-- one fewer after the walk
+pub supplies_after : (q : Pair) (ms ms' : List ℕ) (k : ℕ) (path : List ℕ) (start : ℕ) → 0 < k → length ms' ≡ length ms
+    → Supplies q ms k → Back q ms ms' q.a path start → Supplies q ms' (k - 1)
+supplies_after q ms ms' k path start pos same h walked =
+    let v = h.most - 1 in
+    record {
+      room = omega (arith, h.room, same);
+      most = v;
+      enough = omega (arith, h.enough);
+      balanced = underway_end q.net.lines.now ms' q.a q.b v (walked.underway v (to_spend q.net.lines.now ms q.a q.b h.most (omega (arith, pos, h.enough)) h.balanced));
+    }

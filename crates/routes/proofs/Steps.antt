@@ -4,6 +4,7 @@ use Rattle.std.proofs.lemmas.Bool.{eq-eqb, ne_eqb, cases_eq, cases_Bool, both_wa
 use Rattle.std.proofs.lemmas.List.{drop_all, get_or-set_same, get_or-set_other}
 use Rattle.std.proofs.lemmas.Bool.Decides.{nat_tests}
 use Rattle.network.specs.declared.line.Line.{Line}
+use Rattle.network.specs.declared.pair.Pair.{Pair}
 use Rattle.network.specs.Lines.{line_at}
 use Rattle.network.specs.Routes.{touches, other_end}
 use Rattle.network.specs.Flow.{mark_at, one, leaves, arrives, outs, ins, Balanced}
@@ -108,31 +109,31 @@ pub underway_comes : (ls : List Line) (ms : List ℕ) (a b c v : ℕ) → c ≢ 
 underway_comes ls ms a b c v ne h =
     omega (arith, h c, one_true (eqb c c) (eq-eqb c c refl), cond-false (eqb c a) (suc v) 0 (ne_eqb c a ne))
 
-pub back_start : (ls : List Line) (ms : List ℕ) (a b : ℕ) (path : List ℕ) → Back ls ms ms a b b path (length path)
-back_start ls ms a b path =
+pub back_start : (q : Pair) (ms : List ℕ) (path : List ℕ) → Back q ms ms q.b path (length path)
+back_start q ms path =
     record {
       within = omega arith;
-      led = subst (λ r. Way ls (picked ms ms) b b r) (sym (drop_all (length path) path (omega arith))) (way_none ls (picked ms ms) b);
+      led = subst (λ r. Way q.net.lines.now (picked ms ms) q.b q.b r) (sym (drop_all (length path) path (omega arith))) (way_none q.net.lines.now (picked ms ms) q.b);
       kept = λ p e. e;
       fewer = omega arith;
-      underway = underway_start ls ms a b;
+      underway = underway_start q.net.lines.now ms q.a q.b;
     }
 
-module _ (ls : List Line) (ms ms' : List ℕ) (a b c p : ℕ) (path : List ℕ) (top : ℕ) (inside : p < length ls) (room : length ls ≤ length ms')
-    (comes : arrives (eqb c) (line_at ls p) (mark_at ms' p) ≡ 1) (back : Back ls ms ms' a b c path top) where
-  pub step_fewer : carriers ls ms' ≡ suc (carriers ls (set ms' p 0))
-  step_fewer = carriers_set ls ms' p inside (omega arith) (comes_carrying (line_at ls p) (mark_at ms' p) c comes)
+module _ (q : Pair) (ms ms' : List ℕ) (c p : ℕ) (path : List ℕ) (top : ℕ) (inside : p < length q.net.lines.now) (room : length q.net.lines.now ≤ length ms')
+    (comes : arrives (eqb c) (line_at q.net.lines.now p) (mark_at ms' p) ≡ 1) (back : Back q ms ms' c path top) where
+  pub step_fewer : carriers q.net.lines.now ms' ≡ suc (carriers q.net.lines.now (set ms' p 0))
+  step_fewer = carriers_set q.net.lines.now ms' p inside (omega arith) (comes_carrying (line_at q.net.lines.now p) (mark_at ms' p) c comes)
 
   pub step_back : (path' : List ℕ) (top' : ℕ) → length path' ≡ length path → top' ≤ length path → top ≤ suc top'
-      → ((Q : ℕ → Bool) (y : ℕ) → Q p ≡ true → Way ls Q c y (drop top path) → Way ls Q (source_of (line_at ls p) (mark_at ms' p)) y (drop top' path'))
-      → Back ls ms (set ms' p 0) a b (source_of (line_at ls p) (mark_at ms' p)) path' top'
+      → ((Q : ℕ → Bool) (y : ℕ) → Q p ≡ true → Way q.net.lines.now Q c y (drop top path) → Way q.net.lines.now Q (source_of (line_at q.net.lines.now p) (mark_at ms' p)) y (drop top' path'))
+      → Back q ms (set ms' p 0) (source_of (line_at q.net.lines.now p) (mark_at ms' p)) path' top'
   step_back path' top' same within longer led =
       let g : p < length ms' = omega arith in
       record {
         within = omega arith;
-        led = led (picked ms (set ms' p 0)) b (picked_set ms ms' p back.kept g (comes_carrying (line_at ls p) (mark_at ms' p) c comes))
-            (way_weaker ls (picked ms ms') (picked ms (set ms' p 0)) c b (drop top path) (λ q. picked_more ms ms' (set ms' p 0) q (kept_set ms' p g)) back.led);
+        led = led (picked ms (set ms' p 0)) q.b (picked_set ms ms' p back.kept g (comes_carrying (line_at q.net.lines.now p) (mark_at ms' p) c comes))
+            (way_weaker q.net.lines.now (picked ms ms') (picked ms (set ms' p 0)) c q.b (drop top path) (λ j. picked_more ms ms' (set ms' p 0) j (kept_set ms' p g)) back.led);
         kept = kept_trans ms ms' (set ms' p 0) back.kept (kept_set ms' p g);
         fewer = omega (arith, back.fewer, back.within, step_fewer);
-        underway = λ v h. underway_set ls ms' a b c v p inside g comes (back.underway v h);
+        underway = λ v h. underway_set q.net.lines.now ms' q.a q.b c v p inside g comes (back.underway v h);
       }

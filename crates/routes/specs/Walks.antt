@@ -2,6 +2,7 @@
 -- that a route grows at its front.
 use Rattle.std.specs.Prelude.{◌≡◌, ℕ, suc, ◌+◌, ◌-◌, ◌≤◌, Bool, true, cond, not, ◌&&◌, List, ◌∷◌, length, drop, ◌==◌, nat_eq}
 use Rattle.network.specs.declared.line.Line.{Line}
+use Rattle.network.specs.declared.pair.Pair.{Pair}
 use Rattle.network.specs.Lists.{distinct, every}
 use Rattle.network.specs.Routes.{chained, stops, end_of}
 use Rattle.network.specs.Flow.{sum_marked, one, outs, ins, Balanced}
@@ -35,11 +36,18 @@ abbrev pub Underway : List Line → List ℕ → ℕ → ℕ → ℕ → ℕ →
 Underway ls ms a b c v =
     (p : ℕ) → outs (nat_eq p) ls ms + one (p == c) + cond (p == b) v 0 ≡ ins (nat_eq p) ls ms + cond (p == a) (suc v) 0
 
--- the walk has come back to c: what stands in the path from the top on leads from c to b, over lines that are taken out
--- of the marks
-pub record Back (ls : List Line) (ms ms' : List ℕ) (a b c : ℕ) (path : List ℕ) (top : ℕ) : Type 0 where
+-- marks, with one for each line, that carry k units or more from the first place of a pair to the second
+pub record Supplies (q : Pair) (ms : List ℕ) (k : ℕ) : Type 0 where
+  pub room : length q.net.lines.now ≤ length ms
+  pub most : ℕ
+  pub enough : k ≤ most
+  pub balanced : Balanced q.net.lines.now ms q.a q.b most
+
+-- the walk between a pair's places has come back to c: what stands in the path from the top on leads from there to the
+-- second, over lines that are taken out of the marks
+pub record Back (q : Pair) (ms ms' : List ℕ) (c : ℕ) (path : List ℕ) (top : ℕ) : Type 0 where
   pub within : top ≤ length path
-  pub led : Way ls (picked ms ms') c b (drop top path)
+  pub led : Way q.net.lines.now (picked ms ms') c q.b (drop top path)
   pub kept : Kept ms ms'
-  pub fewer : carriers ls ms' + (length path - top) ≤ carriers ls ms
-  pub underway : (v : ℕ) → Balanced ls ms a b (suc v) → Underway ls ms' a b c v
+  pub fewer : carriers q.net.lines.now ms' + (length path - top) ≤ carriers q.net.lines.now ms
+  pub underway : (v : ℕ) → Balanced q.net.lines.now ms q.a q.b (suc v) → Underway q.net.lines.now ms' q.a q.b c v

@@ -1,6 +1,6 @@
 //! Whether marks carry a value from one place to another.
 
-ghost use Rattle.std.specs.Prelude.{◌≡◌, ℕ, ◌<◌, ◌≤◌, ◌↔◌, length, IsTrue, IfSome, IfNone, ◌≢◌};
+ghost use Rattle.std.specs.Prelude.{◌≡◌, ℕ, ◌≤◌, ◌↔◌, length, IsTrue, IfSome, IfNone};
 ghost use Rattle.network.specs.Flow.{Balanced, Marked, AllMarked};
 ghost use Rattle.routes.specs.Taking.{FitBy};
 ghost use Rattle.routes.specs.Shapes.{PairOf, Ready, Sized, BalancedAt};
@@ -24,7 +24,7 @@ impl<'a> Marking<'a> {
         }
     }
 
-    /// The two places of the network, where it is one and they are two of its places.
+    /// The two places in their network, where it is one and holds both, and they differ.
     fn pair(&self) -> Option<Pair<'a>>
         ensures of { IfSome result (λ q. PairOf self.now q) }
         ensures none { IfNone result ((k : ℕ) → FitBy self.now k → ⊥) }

@@ -1,9 +1,9 @@
 //! Takes routes out of the marks, one after the other, and writes them into a lent list.
 
 ghost use Rattle.std.specs.Prelude.{◌≡◌, ℕ, ◌+◌, ◌-◌, ◌<◌, ◌≤◌, List, ◌++◌, length, drop, MatchOption, slice_set};
-ghost use Rattle.network.specs.Flow.{Balanced};
 ghost use Rattle.routes.specs.Taking.{listed, Chosen, TakenBy};
 ghost use Rattle.routes.specs.Shapes.{Ready};
+ghost use Rattle.routes.specs.Walks.{Supplies};
 ghost use Rattle.routes.specs.Draws.{Drawn};
 
 use crate::marking::Marking;
@@ -29,10 +29,9 @@ fn put_count(store: &mut [u16], start: usize, top: usize) -> usize
 /// Takes `k` routes out of the lines that carry. They stand in `store` from the answered place on, each as its count of
 /// lines and then its lines.
 fn draw(pair: &Pair<'_>, left: &mut [u8], k: usize, store: &mut [u16]) -> usize
-    requires room { length pair.now.net.lines.now ≤ length left.old }
+    requires supplies { Supplies pair.now left.old k }
     requires space { k + length pair.now.net.lines.now ≤ length store.old }
-    requires flows { (v : ℕ) × (k ≤ v) × Balanced pair.now.net.lines.now left.old pair.now.a pair.now.b v }
-    ensures { (rs : List (List ℕ)) × Drawn pair.now.net.lines.now left.old left.new pair.now.a pair.now.b k rs store.new result }
+    ensures { (rs : List (List ℕ)) × Drawn pair.now left.old left.new k rs store.new result }
 {
     let mut top = store.len();
     for _done in 0..k {

@@ -4,8 +4,8 @@ ghost use Rattle.std.specs.Prelude.{◌≡◌, ℕ, suc, ◌<◌, ◌≤◌, Boo
 ghost use Rattle.network.specs.Lines.{line_at};
 ghost use Rattle.network.specs.Lists.{among};
 ghost use Rattle.network.specs.Routes.{chained, stops, touches, other_end};
-ghost use Rattle.network.specs.Flow.{mark_at, arrives, ins, Balanced};
-ghost use Rattle.routes.specs.Walks.{carriers, Way, Back};
+ghost use Rattle.network.specs.Flow.{mark_at, arrives, ins};
+ghost use Rattle.routes.specs.Walks.{carriers, Way, Supplies, Back};
 
 use crate::arcs::{End, carries_at, far_end};
 use network::{Line, Network, Pair};
@@ -75,13 +75,12 @@ fn take_out(left: &mut [u8], line: usize)
     left[line] = 0;
 }
 
-/// Takes one route between the two places out of the lines that still carry. It stands in `path` from the answered place on: the
-/// path is lent, since no route is allocated, and fills from its end.
+/// Takes one route between the two places out of the lines that still carry. It stands in `path` from the answered
+/// place on: the path is lent, since no route is allocated, and fills from its end.
 pub fn walk(pair: &Pair<'_>, left: &mut [u8], path: &mut [u16]) -> usize
-    requires room { length pair.now.net.lines.now ≤ length left.old }
+    requires supplies { Supplies pair.now left.old 1 }
     requires space { carriers pair.now.net.lines.now left.old ≤ length path.old }
-    requires flows { (v : ℕ) × Balanced pair.now.net.lines.now left.old pair.now.a pair.now.b (suc v) }
-    ensures { Back pair.now.net.lines.now left.old left.new pair.now.a pair.now.b pair.now.a path.new result }
+    ensures { Back pair.now left.old left.new pair.now.a path.new result }
 {
     let mut top = path.len();
     let mut place = pair.b;

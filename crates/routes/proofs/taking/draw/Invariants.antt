@@ -1,9 +1,9 @@
-use Rattle.std.proofs.Common.{ℕ, ◌+◌, ◌≤◌, List}
-use Rattle.network.specs.Flow.{Balanced}
+use Rattle.std.proofs.Common.{ℕ, ◌-◌, List}
+use Rattle.routes.specs.Walks.{Supplies}
 use Rattle.routes.specs.Draws.{Drawn}
 use Rattle.routes.proofs.taking.draw.Given as goal
 
 abbrev pub invariant-loop-done : goal.invariant-loop-done
 invariant-loop-done l =
-    ((rs : List (List ℕ)) × Drawn l.pair.net.lines.now l.initial.left l.left l.pair.a l.pair.b l._done rs l.store l.top)
-    × ((v : ℕ) × (l.k ≤ l._done + v) × Balanced l.pair.net.lines.now l.left l.pair.a l.pair.b v)
+    ((rs : List (List ℕ)) × Drawn l.pair l.initial.left l.left l._done rs l.store l.top)
+    × Supplies l.pair l.left (l.k - l._done)
