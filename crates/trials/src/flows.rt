@@ -1,6 +1,6 @@
 //! Asks both engines, and prints their answers.
 
-use crate::answers::{Asked, MARKS, Question, Unsound, WORK, ask};
+use crate::answers::{Asked, MARKS, Question, Unsound, WORK};
 use crate::case::Case;
 use anyhow::anyhow;
 use engines::{Push, ShortestRoute};
@@ -32,9 +32,9 @@ impl Case<'_> {
     }
 
     // Both answers, and what was found of them.
-    fn print_answers(&self, question: Question) -> anyhow::Result<()> {
-        let shortest = ask::<ShortestRoute>(&self.net.lines, question);
-        let push = ask::<Push>(&self.net.lines, question);
+    fn print_answers(&self, question: Question<'_>) -> anyhow::Result<()> {
+        let shortest = question.ask::<ShortestRoute>();
+        let push = question.ask::<Push>();
         self.print_answer("shortest", &shortest)?;
         self.print_answer("push", &push)?;
         self.print_finding(shortest.finding)?;
@@ -53,15 +53,17 @@ impl Case<'_> {
             return Err(anyhow!("too few numbers"));
         };
         self.net.hold(held);
+        let case = &*self;
         let question = Question {
-            sites: self.net.sites.len(),
+            sites: case.net.sites.len(),
+            lines: &case.net.lines,
             a: *a,
             b: *b,
             marks: MARKS,
             work: WORK,
         };
-        print!(self.rt; " {a}-{b}:")?;
-        self.print_answers(question)
+        print!(case.rt; " {a}-{b}:")?;
+        case.print_answers(question)
     }
 
     /// Asks for the routes from place 0 to place 1 of so many sites, with so many marks and records of the work table.
@@ -71,6 +73,7 @@ impl Case<'_> {
         };
         let question = Question {
             sites: *sites,
+            lines: &self.net.lines,
             a: 0,
             b: 1,
             marks: *marks,
