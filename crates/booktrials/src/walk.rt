@@ -21,35 +21,6 @@ pub struct Booking<'a, 'b> {
     pub second: usize,
 }
 
-// One step of a route: the place after it; none where the line is unknown, used already or not at this place.
-fn step(lines: &[Line], used: &mut [bool], here: usize, number: u16) -> Option<usize> {
-    let position = lines.iter().position(|line| line.number == number)?;
-    let there = across(lines.get(position)?, here)?;
-    if mem::replace(used.get_mut(position)?, true) {
-        return None;
-    }
-    Some(there)
-}
-
-// Whether the line numbers lead from the first place to the second and to no place twice.
-// The trials of the engines walk positions of lines that are free now, where this walks numbers over the lines as they
-// were: a walker for both would be handed each step by a closure.
-fn walk_route(booking: Booking<'_, '_>, used: &mut [bool], numbers: &[u16]) -> bool {
-    let mut here = booking.first;
-    let mut seen = insert(0, here);
-    for number in numbers {
-        let Some(there) = step(booking.before, used, here, *number) else {
-            return false;
-        };
-        if contains(seen, there) {
-            return false;
-        }
-        seen = insert(seen, there);
-        here = there;
-    }
-    here == booking.second
-}
-
 /// The runs of a list, each its count and then as many numbers; one that the list is too short for is none, and the
 /// last.
 #[derive(Clone, Copy)]
@@ -75,18 +46,6 @@ impl<'a> Iterator for Runs<'a> {
     }
 }
 
-// Walks every route; the answer is how many there are, none where one is not as it should be.
-fn walk_all(booking: Booking<'_, '_>, used: &mut [bool], shown: &[u16]) -> Option<usize> {
-    let mut routes = 0usize;
-    for numbers in Runs(shown) {
-        if !walk_route(booking, used, numbers?) {
-            return None;
-        }
-        routes = routes.saturating_add(1);
-    }
-    Some(routes)
-}
-
 // Whether a line on a route was free and is held by the booking, and any other line is as it was.
 fn line_is_right(was: &Line, is: &Line, number: u16, on_route: bool) -> bool {
     if on_route {
@@ -96,25 +55,78 @@ fn line_is_right(was: &Line, is: &Line, number: u16, on_route: bool) -> bool {
     }
 }
 
-fn lines_are_right(booking: Booking<'_, '_>, used: &[bool]) -> bool {
-    let Booking {
-        before,
-        after,
-        number,
-        ..
-    } = booking;
-    before.len() == after.len()
-        && before.iter().zip(after).zip(used).all(|((was, is), on_route)| line_is_right(
-            was, is, number, *on_route,
-        ))
+/// Walks the routes of a booking over the lines as they were, of which no two pass the same one.
+// The trials of the engines walk positions of lines that are free now, where this walks numbers: a walker for both would
+// be handed each step by a closure.
+#[derive(Drop)]
+struct Walker<'a, 'b> {
+    booking: Booking<'a, 'b>,
+    used: [bool; MOST_LINES],
+}
+
+impl Walker<'_, '_> {
+    // One step of a route: the place after it; none where the line is unknown, used already or not at this place.
+    fn step(&mut self, here: usize, number: u16) -> Option<usize> {
+        let lines = self.booking.before;
+        let position = lines.iter().position(|line| line.number == number)?;
+        let there = across(lines.get(position)?, here)?;
+        if mem::replace(self.used.get_mut(position)?, true) {
+            return None;
+        }
+        Some(there)
+    }
+
+    // Whether the line numbers lead from the first place to the second and to no place twice.
+    fn walks(&mut self, numbers: &[u16]) -> bool {
+        let mut here = self.booking.first;
+        let mut seen = insert(0, here);
+        for number in numbers {
+            let Some(there) = self.step(here, *number) else {
+                return false;
+            };
+            if contains(seen, there) {
+                return false;
+            }
+            seen = insert(seen, there);
+            here = there;
+        }
+        here == self.booking.second
+    }
+
+    // Walks every route; the answer is how many there are, none where one is not as it should be.
+    fn walk_all(&mut self, shown: &[u16]) -> Option<usize> {
+        let mut routes = 0usize;
+        for numbers in Runs(shown) {
+            if !self.walks(numbers?) {
+                return None;
+            }
+            routes = routes.saturating_add(1);
+        }
+        Some(routes)
+    }
+
+    // Whether the lines on the routes, and no others, are now held by the booking.
+    fn lines_are_right(&self) -> bool {
+        let Booking {
+            before,
+            after,
+            number,
+            ..
+        } = self.booking;
+        before.len() == after.len()
+            && before.iter().zip(after).zip(&self.used).all(|((was, is), on_route)| line_is_right(
+                was, is, number, *on_route,
+            ))
+    }
 }
 
 /// How many separate routes a booking shows; none unless each leads from the first place to the second, to no place
 /// twice, over lines that were free and that the booking holds now, no line is used twice and no other line changed.
 pub fn walked(booking: Booking<'_, '_>, shown: &[u16]) -> Option<usize> {
-    let mut used = [false; MOST_LINES];
-    let routes = walk_all(booking, &mut used, shown)?;
-    lines_are_right(booking, &used).then_some(routes)
+    let used = [false; MOST_LINES];
+    let mut walker = Walker { booking, used };
+    let routes = walker.walk_all(shown)?;
+    walker.lines_are_right().then_some(routes)
 }
 
 /// How many lines the booking of a number holds.

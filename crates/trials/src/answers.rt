@@ -15,8 +15,9 @@ pub const WORK: usize = 70;
 
 /// What an engine is asked, with the lengths of the two lists that it is lent.
 #[derive(Clone, Copy)]
-pub struct Question {
+pub struct Question<'a> {
     pub sites: usize,
+    pub lines: &'a [Line],
     pub a: usize,
     pub b: usize,
     pub marks: usize,
@@ -64,72 +65,76 @@ impl From<NotTaken> for Unsound {
     }
 }
 
-// The side is to hold a, not b, only places of the network, and to be crossed by `value` free lines.
-fn look_at_side(lines: &[Line], question: Question, flow: Flow) -> Result<(), Unsound> {
-    let Flow { value, side: cut } = flow;
-    if !side::contains(cut, question.a) || side::contains(cut, question.b) {
-        return Err(Unsound::NotParted);
+impl Question<'_> {
+    // The side is to hold a, not b, only places of the network, and to be crossed by `value` free lines.
+    fn look_at_side(self, flow: Flow) -> Result<(), Unsound> {
+        let Flow { value, side: cut } = flow;
+        if !side::contains(cut, self.a) || side::contains(cut, self.b) {
+            return Err(Unsound::NotParted);
+        }
+        if side::intersection(cut, side::all_below(self.sites)) != cut {
+            return Err(Unsound::Outside);
+        }
+        if crossing(self.lines, cut) != value {
+            return Err(Unsound::OtherCount);
+        }
+        Ok(())
     }
-    if side::intersection(cut, side::all_below(question.sites)) != cut {
-        return Err(Unsound::Outside);
+
+    // Takes as many routes as the value out of the marks, and walks them.
+    fn take_all(self, marks: &[u8], value: usize) -> Result<(), NotTaken> {
+        let Question {
+            sites,
+            lines,
+            a,
+            b,
+            ..
+        } = self;
+        let marking = Marking {
+            sites,
+            lines,
+            marks,
+            a,
+            b,
+            value,
+        };
+        take(&marking, value, 1024)
     }
-    if crossing(lines, cut) != value {
-        return Err(Unsound::OtherCount);
+
+    // Looks at an answer of the engine, and at what stands in the marks after it.
+    fn look_at(self, marks: &[u8], flow: Flow) -> Result<(), Unsound> {
+        if !is_old(marks, self.lines.len()) {
+            return Err(Unsound::MarksPast);
+        }
+        self.look_at_side(flow)?;
+        self.take_all(marks, flow.value)?;
+        Ok(())
     }
-    Ok(())
-}
 
-// Takes as many routes as the value out of the marks, and walks them.
-fn take_all(
-    lines: &[Line],
-    marks: &[u8],
-    question: Question,
-    value: usize,
-) -> Result<(), NotTaken> {
-    let Question { sites, a, b, .. } = question;
-    let marking = Marking {
-        sites,
-        lines,
-        marks,
-        a,
-        b,
-        value,
-    };
-    take(&marking, value, 1024)
-}
-
-// Looks at an answer of the engine, and at what stands in the marks after it.
-fn look_at(lines: &[Line], marks: &[u8], question: Question, flow: Flow) -> Result<(), Unsound> {
-    if !is_old(marks, lines.len()) {
-        return Err(Unsound::MarksPast);
+    // Asks the engine with these two lists, which it leaves as they are where it declines.
+    fn ask_with<E: Engine>(self, marks: &mut [u8], work: &mut [SiteWork]) -> Asked {
+        let Question {
+            sites,
+            lines,
+            a,
+            b,
+            ..
+        } = self;
+        let flow = E::flow(sites, lines, a, b, marks, work);
+        let finding = match flow {
+            Some(flow) => self.look_at(marks, flow),
+            None if is_old(marks, 0) && is_old(work, 0) => Err(Unsound::Declined),
+            None => Err(Unsound::WroteInVain),
+        };
+        Asked { flow, finding }
     }
-    look_at_side(lines, question, flow)?;
-    take_all(lines, marks, question, flow.value)?;
-    Ok(())
-}
 
-// Asks the engine with these two lists, which it leaves as they are where it declines.
-fn ask_with<E: Engine>(
-    lines: &[Line],
-    question: Question,
-    marks: &mut [u8],
-    work: &mut [SiteWork],
-) -> Asked {
-    let Question { sites, a, b, .. } = question;
-    let flow = E::flow(sites, lines, a, b, marks, work);
-    let finding = match flow {
-        Some(flow) => look_at(lines, marks, question, flow),
-        None if is_old(marks, 0) && is_old(work, 0) => Err(Unsound::Declined),
-        None => Err(Unsound::WroteInVain),
-    };
-    Asked { flow, finding }
-}
-
-/// Asks the engine, with old numbers in marks and work table.
-pub fn ask<E: Engine>(lines: &[Line], question: Question) -> Asked {
-    let mut marks = [u8::OLD; MARKS];
-    let mut work = [SiteWork::OLD; WORK];
-    let lent_marks = &mut marks[..question.marks.min(MARKS)];
-    let lent_work = &mut work[..question.work.min(WORK)];
-    ask_with::<E>(lines, question, lent_marks, lent_work)
+    /// Asks the engine, with old numbers in marks and work table.
+    pub fn ask<E: Engine>(self) -> Asked {
+        let mut marks = [u8::OLD; MARKS];
+        let mut work = [SiteWork::OLD; WORK];
+        let lent_marks = &mut marks[..self.marks.min(MARKS)];
+        let lent_work = &mut work[..self.work.min(WORK)];
+        self.ask_with::<E>(lent_marks, lent_work)
+    }
 }

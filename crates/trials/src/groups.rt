@@ -1,6 +1,6 @@
 //! The groups that both trees of a network tell.
 
-use crate::networks::Network;
+use crate::case::Case;
 use crate::old::{Old, is_old};
 use crate::trees::{Trees, grow};
 use anyhow::{Context, anyhow, ensure};
@@ -20,14 +20,6 @@ fn groups_of(tree: &Tree, k: u32) -> anyhow::Result<Groups> {
     Ok(Groups { count, places })
 }
 
-// The number of the site at a place; the old number where the list was not written.
-fn site_at(net: &Network, place: u16) -> u16 {
-    net.sites
-        .get(usize::from(place))
-        .copied()
-        .unwrap_or(u16::OLD)
-}
-
 // Both engines' groups at k, which have to be the same.
 fn agreed(trees: &Trees, k: u32, sites: usize) -> anyhow::Result<Groups> {
     let groups = groups_of(&trees.shortest, k)?;
@@ -40,24 +32,36 @@ fn agreed(trees: &Trees, k: u32, sites: usize) -> anyhow::Result<Groups> {
     Ok(groups)
 }
 
-fn print_list(rt: &HostRuntime, net: &Network, groups: &Groups) -> io::Result<()> {
-    for place in groups.places.iter().take(net.sites.len()) {
-        let site = site_at(net, *place);
-        print!(rt; " {site}")?;
+impl Case<'_> {
+    // The number of the site at a place; the old number where the list was not written.
+    fn site_at(&self, place: u16) -> u16 {
+        self.net
+            .sites
+            .get(usize::from(place))
+            .copied()
+            .unwrap_or(u16::OLD)
     }
-    println!(rt)
-}
 
-/// Prints how many groups there are at k, and for each place in order the site at the lowest place in its group. The
-/// numbers are k and the lines held.
-pub fn print_groups(rt: &HostRuntime, net: &mut Network, numbers: &[usize]) -> anyhow::Result<()> {
-    let [k, held @ ..] = numbers else {
-        return Err(anyhow!("too few numbers"));
-    };
-    net.hold(held);
-    let groups = agreed(&grow(net)?, u32::try_from(*k)?, net.sites.len())?;
-    let count = groups.count;
-    print!(rt; " at {k}: {count} groups:")?;
-    print_list(rt, net, &groups)?;
-    Ok(())
+    fn print_list(&self, groups: &Groups) -> io::Result<()> {
+        for place in groups.places.iter().take(self.net.sites.len()) {
+            let site = self.site_at(*place);
+            print!(self.rt; " {site}")?;
+        }
+        println!(self.rt)
+    }
+
+    /// Prints how many groups there are at k, and for each place in order the site at the lowest place in its group.
+    /// The numbers are k and the lines held.
+    pub fn print_groups(&mut self) -> anyhow::Result<()> {
+        let [k, held @ ..] = self.numbers else {
+            return Err(anyhow!("too few numbers"));
+        };
+        self.net.hold(held);
+        let trees = grow(&self.net)?;
+        let groups = agreed(&trees, u32::try_from(*k)?, self.net.sites.len())?;
+        let count = groups.count;
+        print!(self.rt; " at {k}: {count} groups:")?;
+        self.print_list(&groups)?;
+        Ok(())
+    }
 }

@@ -4,6 +4,7 @@
 #![tactic(auto)]
 
 mod answers;
+mod case;
 mod files;
 mod flows;
 mod groups;
@@ -16,42 +17,11 @@ mod walks;
 mod words;
 
 use anyhow::anyhow;
+use case::Case;
 use files::print_file;
-use flows::{print_flow, print_room};
-use groups::print_groups;
-use levels::print_levels;
 use networks::Network;
 use std::io::{BufRead, BufReader};
-use taking::print_taking;
 use words::{bytes_of, numbers_of};
-
-fn print_worked(rt: &HostRuntime, net: &Network) -> anyhow::Result<()> {
-    let text = if net.is_worked() {
-        "that of the proved cases"
-    } else {
-        "another"
-    };
-    println!(rt; ": {text}")?;
-    Ok(())
-}
-
-fn run_on(
-    rt: &HostRuntime,
-    kind: &str,
-    net: &mut Network,
-    numbers: &[usize],
-) -> anyhow::Result<()> {
-    // An enum of these kinds with a FromStr would only name each of them three times.
-    match kind {
-        "worked" => print_worked(rt, net),
-        "flow" => print_flow(rt, net, numbers),
-        "room" => print_room(rt, net, numbers),
-        "take" => print_taking(rt, net, numbers),
-        "levels" => print_levels(rt, net, numbers),
-        "groups" => print_groups(rt, net, numbers),
-        _ => Err(anyhow!("an unknown kind of case")),
-    }
-}
 
 fn run_case(rt: &HostRuntime, words: &[&str]) -> anyhow::Result<()> {
     let [kind, name, word, rest @ ..] = words else {
@@ -63,9 +33,14 @@ fn run_case(rt: &HostRuntime, words: &[&str]) -> anyhow::Result<()> {
         print_file(rt, &bytes)?;
         return Ok(());
     }
-    let mut net = Network::read(rt.alloc(), &bytes)?;
+    let net = Network::read(rt.alloc(), &bytes)?;
     let numbers = numbers_of(rt.alloc(), rest)?;
-    run_on(rt, kind, &mut net, &numbers)
+    let mut case = Case {
+        rt,
+        net,
+        numbers: &numbers,
+    };
+    case.run(kind)
 }
 
 fn run(rt: &HostRuntime) -> anyhow::Result<()> {

@@ -1,6 +1,6 @@
 //! Takes routes out of marks, and walks them.
 
-use crate::networks::Network;
+use crate::case::Case;
 use crate::old::{Old, is_old};
 use crate::walks::all_walk;
 use anyhow::anyhow;
@@ -56,28 +56,30 @@ fn marks_of(heap: Global, numbers: &[usize]) -> Result<Vec<u8>, AllocError> {
         .collect(heap)
 }
 
-/// Takes routes out of marks: the numbers are which, how many marks there are, the marks, and the lines held.
-pub fn print_taking(rt: &HostRuntime, net: &mut Network, numbers: &[usize]) -> anyhow::Result<()> {
-    let [a, b, value, k, room, count, rest @ ..] = numbers else {
-        return Err(anyhow!("too few numbers"));
-    };
-    let Some((marks, held)) = rest.split_at_checked(*count) else {
-        return Err(anyhow!("too few marks"));
-    };
-    net.hold(held);
-    let marks = marks_of(rt.alloc(), marks)?;
-    let marking = Marking {
-        sites: net.sites.len(),
-        lines: &net.lines,
-        marks: &marks,
-        a: *a,
-        b: *b,
-        value: *value,
-    };
-    print!(rt; " {a}-{b}: {k} of {value} into {room}: ")?;
-    match take(&marking, *k, *room) {
-        Ok(()) => println!(rt; "routes walk")?,
-        Err(fault) => println!(rt; "{fault}")?,
+impl Case<'_> {
+    /// Takes routes out of marks: the numbers are which, how many marks there are, the marks, and the lines held.
+    pub fn print_taking(&mut self) -> anyhow::Result<()> {
+        let [a, b, value, k, room, count, rest @ ..] = self.numbers else {
+            return Err(anyhow!("too few numbers"));
+        };
+        let Some((marks, held)) = rest.split_at_checked(*count) else {
+            return Err(anyhow!("too few marks"));
+        };
+        self.net.hold(held);
+        let marks = marks_of(self.rt.alloc(), marks)?;
+        let marking = Marking {
+            sites: self.net.sites.len(),
+            lines: &self.net.lines,
+            marks: &marks,
+            a: *a,
+            b: *b,
+            value: *value,
+        };
+        print!(self.rt; " {a}-{b}: {k} of {value} into {room}: ")?;
+        match take(&marking, *k, *room) {
+            Ok(()) => println!(self.rt; "routes walk")?,
+            Err(fault) => println!(self.rt; "{fault}")?,
+        }
+        Ok(())
     }
-    Ok(())
 }
