@@ -1,15 +1,15 @@
 //! Lists that are too short by one, just long enough, and longer.
 
-use crate::nets::WORKED;
 use crate::say::{say_answer, say_whether};
 use crate::trial::Trial;
 use crate::walk::{Booking, walked};
+use cases::worked_bytes;
 use network::{Engine, Line};
 
 impl<E: Engine> Trial<'_, E> {
     pub fn try_lists(&mut self) -> anyhow::Result<()> {
         println!(self.rt; " lists")?;
-        self.open("open", WORKED, 7)?;
+        self.open("open", worked_bytes(), 7)?;
         let before = self.desk.book().lines().to_vec(self.rt.alloc())?;
         self.book(10, 20, 3)?;
         self.show_short()?;

@@ -1,10 +1,10 @@
 //! Two books with different marks, and the tickets of one at the other.
 
-use crate::nets::WORKED;
 use crate::say::{say, say_answer, say_whether};
 use crate::trial::Trial;
 use crate::walk::held;
 use book::{Book, Denied, Fault};
+use cases::worked_bytes;
 use desk::Desk;
 use network::Engine;
 
@@ -23,10 +23,14 @@ impl<E: Engine> Trial<'_, E> {
     // is 0 as that of the first, and no booking stands in it.
     fn show_strangers(&mut self, other: &mut Desk<E>) -> anyhow::Result<()> {
         let rt = self.rt;
-        self.open("open with mark 0", WORKED, 0)?;
+        self.open("open with mark 0", worked_bytes(), 0)?;
         self.book(30, 40, 1)?;
         show_on(rt, "show on an unopened book", self.desk, other, 0)?;
-        say(rt, "open the other with mark 1", other.open(WORKED, 1))?;
+        say(
+            rt,
+            "open the other with mark 1",
+            other.open(worked_bytes(), 1),
+        )?;
         say(rt, "book 30 40 1 there", other.book_routes(30, 40, 1))?;
         show_on(rt, "show on the other book", self.desk, other, 0)?;
         show_on(rt, "show that on this one", other, self.desk, 0)?;
@@ -89,7 +93,7 @@ fn say_handed_over<E: Engine>(
 fn release_on_unopened<E: Engine>(rt: &HostRuntime) -> anyhow::Result<()> {
     let mut own: Book<E> = Book::new(rt.alloc())?;
     let mut other: Book<E> = Book::new(rt.alloc())?;
-    say(rt, "open with mark 0", own.open(WORKED, 0))?;
+    say(rt, "open with mark 0", own.open(worked_bytes(), 0))?;
     say_handed_over(rt, &mut own, &mut other)
 }
 
@@ -97,8 +101,12 @@ fn release_on_unopened<E: Engine>(rt: &HostRuntime) -> anyhow::Result<()> {
 fn release_on_other<E: Engine>(rt: &HostRuntime) -> anyhow::Result<()> {
     let mut own: Book<E> = Book::new(rt.alloc())?;
     let mut other: Book<E> = Book::new(rt.alloc())?;
-    say(rt, "open with mark 7", own.open(WORKED, 7))?;
-    say(rt, "open the other with mark 8", other.open(WORKED, 8))?;
+    say(rt, "open with mark 7", own.open(worked_bytes(), 7))?;
+    say(
+        rt,
+        "open the other with mark 8",
+        other.open(worked_bytes(), 8),
+    )?;
     say_handed_over(rt, &mut own, &mut other)?;
     say_handed_over(rt, &mut other, &mut own)
 }

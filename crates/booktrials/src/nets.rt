@@ -4,12 +4,6 @@ ghost use Rattle.std.specs.Prelude.{◌≤◌};
 
 use std::alloc::{AllocError, Global};
 
-/// Sites 10, 20, 30, 40; lines 1 and 2 join 10 and 20, 3 joins 20 and 30, 4 joins 30 and 10, 5 joins 30 and 40.
-pub const WORKED: &[u8; 76] = b"LNET\x01\x02\x0E\x00\x20\x00\x2E\x00\x1E\x00\
-    \x0A\x00HILL  \x14\x00BAY   \x1E\x00CAPE  \x28\x00ISLE  \
-    \x01\x00\x0A\x00\x14\x00\x02\x00\x0A\x00\x14\x00\x03\x00\x14\x00\x1E\x00\
-    \x04\x00\x1E\x00\x0A\x00\x05\x00\x1E\x00\x28\x00";
-
 fn put(file: &mut Vec<u8>, number: u16) -> Result<(), AllocError> {
     file.extend_from_slice(&number.to_le_bytes())
 }

@@ -3,7 +3,7 @@
 use book::{Book, Cut, Fault};
 use cases::crossing;
 use network::side::contains;
-use network::{Line, LineState};
+use network::{Flow, Line, LineState};
 
 /// How many sites there are, and the number of the first.
 pub const SITES: u16 = 12;
@@ -114,8 +114,8 @@ impl Wish {
     pub fn denied_rightly<E>(self, book: &Book<E>, fault: Fault) -> bool {
         match fault {
             Fault::NoSuchSite(site) => site == self.ends.stranger(),
-            Fault::TooFewRoutes(level, side) => {
-                self.ends.level(book) == Some(level) && self.ends.are_parted(book, level, side)
+            Fault::TooFewRoutes(Flow { value, side }) => {
+                self.ends.level(book) == Some(value) && self.ends.are_parted(book, value, side)
             }
             _ => true,
         }

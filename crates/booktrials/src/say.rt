@@ -21,7 +21,10 @@ impl Display for Denial {
                 write!(f, " at byte {place}")
             }
             Fault::NoSuchSite(site) => write!(f, " for site {site}"),
-            Fault::TooFewRoutes(level, _) => write!(f, " with level {level}"),
+            Fault::TooFewRoutes(flow) => {
+                let level = flow.value;
+                write!(f, " with level {level}")
+            }
             _ => Ok(()),
         }
     }

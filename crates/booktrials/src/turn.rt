@@ -81,7 +81,7 @@ impl<E: Engine> Succession<'_, E> {
                 let right = wish.denied_rightly(self.desk.book(), fault)
                     && before.as_slice() == self.desk.book().lines()
                     && check.is_err_and(|check| check.speaks_in(fault));
-                self.log.note(kind_of(fault), right);
+                self.log.note(fault.into(), right);
             }
         }
         Ok(())
@@ -172,12 +172,14 @@ impl<E: Engine> Succession<'_, E> {
     }
 }
 
-fn kind_of(fault: Fault) -> Kind {
-    match fault {
-        Fault::NoSuchSite(_) => Kind::NoSite,
-        Fault::SameSite => Kind::SameSite,
-        Fault::TooFewRoutes(_, _) => Kind::TooFew,
-        _ => Kind::NoLevel,
+impl From<Fault> for Kind {
+    fn from(fault: Fault) -> Kind {
+        match fault {
+            Fault::NoSuchSite(_) => Kind::NoSite,
+            Fault::SameSite => Kind::SameSite,
+            Fault::TooFewRoutes(_) => Kind::TooFew,
+            _ => Kind::NoLevel,
+        }
     }
 }
 

@@ -1,8 +1,8 @@
 //! A book that holds no network, and openings that are denied.
 
-use crate::nets::WORKED;
 use crate::say::{say_answer, say_whether};
 use crate::trial::Trial;
+use cases::worked_bytes;
 use network::Engine;
 
 impl<E: Engine> Trial<'_, E> {
@@ -41,10 +41,13 @@ impl<E: Engine> Trial<'_, E> {
 
     // A file that lacks its last byte, another letter at its front, and no file at all.
     fn open_in_vain(&mut self) -> anyhow::Result<()> {
-        let file = *WORKED;
-        let mut other = file;
-        other[3] = b'S';
-        self.open("open without the last byte", &file[0..75], 9)?;
+        let file = worked_bytes();
+        let shorter = file.split_last().map_or(file, |(_, rest)| rest);
+        let mut other = file.to_vec(self.rt.alloc())?;
+        if let Some(letter) = other.get_mut(3) {
+            *letter = b'S';
+        }
+        self.open("open without the last byte", shorter, 9)?;
         self.open("open with another letter", &other, 9)?;
         self.open("open nothing", &[], 9)?;
         say_whether(self.rt, "no sites, no lines", self.is_empty())?;
@@ -58,9 +61,9 @@ impl<E: Engine> Trial<'_, E> {
 
     // A second opening changes nothing, not the mark either; that the book is open comes before what ails the file.
     fn open_twice(&mut self) -> anyhow::Result<()> {
-        self.open("open with mark 5", WORKED, 5)?;
+        self.open("open with mark 5", worked_bytes(), 5)?;
         self.book(10, 20, 3)?;
-        self.open("open again with mark 9", WORKED, 9)?;
+        self.open("open again with mark 9", worked_bytes(), 9)?;
         self.open("open nothing again", &[], 9)?;
         self.say_groups(1)?;
         self.book(30, 40, 1)?;

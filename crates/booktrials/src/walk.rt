@@ -5,11 +5,8 @@ ghost use Rattle.std.specs.Iterator.{at_most};
 
 use cases::across;
 use network::side::{contains, insert};
-use network::{Line, LineState};
+use network::{Line, LineState, MOST_LINES};
 use std::mem;
-
-// A book has no more lines.
-const MOST_LINES: usize = 512;
 
 /// The lines before a booking and after it, the booking's number, and the places that its routes join.
 #[derive(Clone, Copy)]

@@ -1,10 +1,10 @@
 //! The worked network: levels, cuts, denials in their order, groups before and after a booking and its release.
 
-use crate::nets::WORKED;
 use crate::say::{say, say_whether};
 use crate::trial::Trial;
 use book::Fault;
-use network::Engine;
+use cases::worked_bytes;
+use network::{Engine, Flow};
 
 // Places 0 to 3 are the sites 10 to 40.
 const SIDE_OF_10: u64 = 1;
@@ -14,7 +14,7 @@ const SIDE_OF_10_30_40: u64 = 13;
 impl<E: Engine> Trial<'_, E> {
     pub fn try_worked(&mut self) -> anyhow::Result<()> {
         println!(self.rt; " worked network")?;
-        self.open("open", WORKED, 7)?;
+        self.open("open", worked_bytes(), 7)?;
         self.ask()?;
         self.ask_in_vain()?;
         self.book_in_vain()?;
@@ -55,7 +55,10 @@ impl<E: Engine> Trial<'_, E> {
         say(self.rt, "book 10 20 4", answer)?;
         let right = matches!(
             answer,
-            Err(Fault::TooFewRoutes(_, SIDE_OF_10 | SIDE_OF_10_30_40))
+            Err(Fault::TooFewRoutes(Flow {
+                side: SIDE_OF_10 | SIDE_OF_10_30_40,
+                ..
+            }))
         );
         say_whether(self.rt, "its side", right)
     }

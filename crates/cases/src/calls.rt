@@ -28,7 +28,7 @@ pub fn worked_calls<E: Engine>(heap: Global) -> Result<Outcome, CallFault>
 }
 
 /// The worked network as a network file: the header, four sites and five lines.
-fn worked_bytes() -> &'static [u8]
+pub fn worked_bytes() -> &'static [u8]
     ensures { result.now ≡ worked_file }
 {
     b"LNET\x01\x02\x0e\0\x20\0\x2e\0\x1e\0\

@@ -5,7 +5,7 @@ mod lines;
 mod outcome;
 mod table;
 
-pub use calls::worked_calls;
+pub use calls::{worked_bytes, worked_calls};
 pub use lines::{across, crossing};
 pub use outcome::{CallFault, Outcome};
 pub use table::worked_lines;

@@ -10,8 +10,8 @@ use network::{Line, side};
 fn crosses(line: &Line, side: u64) -> bool
     ensures { result ≡ crosses (member side) line.now }
 {
-    let first = side::contains(side, line.first as usize);
-    let second = side::contains(side, line.second as usize);
+    let first = side::contains(side, usize::from(line.first));
+    let second = side::contains(side, usize::from(line.second));
     line.is_free() && first != second
 }
 
@@ -26,7 +26,7 @@ pub fn crossing(lines: &[Line], side: u64) -> usize
 pub fn across(line: &Line, place: usize) -> Option<usize>
     ensures { result ≡ (if touches line.now place then Some (other_end line.now place) else None) }
 {
-    let (first, second) = (line.first as usize, line.second as usize);
+    let (first, second) = (usize::from(line.first), usize::from(line.second));
     if first == place {
         Some(second)
     } else if second == place {

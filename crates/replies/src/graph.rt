@@ -134,5 +134,5 @@ impl fmt::Display for Edge<'_> {
 fn tint(booking: u16) -> usize
     ensures { result ≡ booking % 6 }
 {
-    booking as usize % COLOURS.len()
+    usize::from(booking) % COLOURS.len()
 }

@@ -18,7 +18,7 @@ impl<'a> Iterator for Routes<'a> {
 
     fn next(&mut self) -> Option<&'a [u16]> {
         let (count, after) = self.0.split_first()?;
-        let (route, rest) = after.split_at_checked(*count as usize)?;
+        let (route, rest) = after.split_at_checked(usize::from(*count))?;
         self.0 = rest;
         Some(route)
     }

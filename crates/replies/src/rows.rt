@@ -81,7 +81,7 @@ pub struct LineRow<'a> {
 
 // The number of the site at a place.
 fn site_number(sites: &[Site], place: u8) -> u16 {
-    sites.get(place as usize).map_or(0, |site| site.number)
+    sites.get(usize::from(place)).map_or(0, |site| site.number)
 }
 
 impl LineRow<'_> {

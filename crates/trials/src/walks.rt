@@ -1,11 +1,8 @@
 //! Walks the routes that were taken, line by line.
 
 use cases::across;
-use network::{Line, side};
+use network::{Line, MOST_LINES, side};
 use std::mem;
-
-/// A network has no more lines.
-const MOST_LINES: usize = 512;
 
 /// Walks routes over the lines of a network, of which no two pass the same one.
 #[derive(Drop)]
