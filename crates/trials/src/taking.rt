@@ -36,9 +36,9 @@ fn take_into(marking: &Marking<'_>, k: usize, list: &mut [u16]) -> Result<(), No
         None if is_old(list, 0) => Err(NotTaken::Refused),
         Some(count)
             if is_old(list, count)
-                && list.get(..count).is_some_and(|numbers| {
-                    all_walk(marking.lines, numbers, marking.a, marking.b, k)
-                }) => { Ok(()) }
+                && list
+                    .get(..count)
+                    .is_some_and(|numbers| all_walk(*marking, numbers, k)) => { Ok(()) }
         _ => Err(NotTaken::Wrong),
     }
 }

@@ -1,13 +1,14 @@
 //! Walks the routes that were taken, line by line.
 
 use cases::across;
-use network::{Line, MOST_LINES, side};
+use network::{MOST_LINES, side};
+use routes::Marking;
 use std::mem;
 
-/// Walks routes over the lines of a network, of which no two pass the same one.
+/// Walks routes of a marking over its lines, of which no two pass the same one.
 #[derive(Drop)]
 struct Walker<'a> {
-    lines: &'a [Line],
+    marking: Marking<'a>,
     used: [bool; MOST_LINES],
 }
 
@@ -15,7 +16,7 @@ impl Walker<'_> {
     // One step over the line at a position, which is free and on no route so far: where it leads.
     fn step(&mut self, position: u16, place: usize) -> Option<usize> {
         let position = usize::from(position);
-        let line = self.lines.get(position)?;
+        let line = self.marking.lines.get(position)?;
         let used = self.used.get_mut(position)?;
         if !line.is_free() || mem::replace(used, true) {
             return None;
@@ -24,9 +25,9 @@ impl Walker<'_> {
     }
 
     // Whether the positions are a route from a to b that passes no place twice.
-    fn walks(&mut self, route: &[u16], a: usize, b: usize) -> bool {
-        let mut place = a;
-        let mut passed = side::insert(0, a);
+    fn walks(&mut self, route: &[u16]) -> bool {
+        let mut place = self.marking.a;
+        let mut passed = side::insert(0, place);
         for position in route {
             let Some(next) = self.step(*position, place) else {
                 return false;
@@ -37,7 +38,7 @@ impl Walker<'_> {
             place = next;
             passed = side::insert(passed, next);
         }
-        place == b
+        place == self.marking.b
     }
 }
 
@@ -48,15 +49,15 @@ fn first_run(list: &[u16]) -> Option<(&[u16], &[u16])> {
 }
 
 /// Whether the numbers are k routes from a to b, each its count of lines and then their positions, with no line twice.
-pub fn all_walk(lines: &[Line], numbers: &[u16], a: usize, b: usize, k: usize) -> bool {
+pub fn all_walk(marking: Marking<'_>, numbers: &[u16], k: usize) -> bool {
     let used = [false; MOST_LINES];
-    let mut walker = Walker { lines, used };
+    let mut walker = Walker { marking, used };
     let mut left = numbers;
     for _ in 0..k {
         let Some((route, after)) = first_run(left) else {
             return false;
         };
-        if !walker.walks(route, a, b) {
+        if !walker.walks(route) {
             return false;
         }
         left = after;
