@@ -39,7 +39,8 @@ fn touches(line: &Line, p: usize) -> bool
 }
 
 impl Hand<'_> {
-    // Sends one unit of p's surplus that way, if it leads from p and the line takes one.
+    // Sends one unit of p's surplus that way, if it leads from p and the line takes one. That p is loaded stays a clause: the
+    // unit may be p's last, so no struct of the hand and p could keep it as a field.
     fn try_send(&mut self, p: usize, way: Way) -> bool
         requires listed { way.line < length self.old.pair.net.lines.now }
         requires loaded { Loaded self.old.work.now p }
