@@ -2,7 +2,7 @@
 use Rattle.std.specs.Prelude.{◌≡◌}
 use Rattle.engines.specs.declared.hand.Hand.{Hand}
 
--- the same pair, marks and table in the same places of memory; what is marked and noted there may differ
+-- the same pair, and marks and table behind the same references; what they hold may differ
 pub record SameHand (h h' : Hand) : Type 0 where
   pub pair : h'.pair ≡ h.pair
   pub marks : h'.marks.ghost_name ≡ h.marks.ghost_name

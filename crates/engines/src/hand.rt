@@ -1,4 +1,4 @@
-//! What an engine has in hand while it works.
+//! What an engine has in hand while it works. Its methods stand with what they do: `push`, `search`, `shortest`.
 
 ghost use Rattle.std.specs.Prelude.{◌≡◌, length};
 

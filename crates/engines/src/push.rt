@@ -5,9 +5,31 @@ ghost use Rattle.engines.specs.Hands.{SameHand};
 ghost use Rattle.engines.specs.Heights.{height_at, surplus_at, moved, raised, Loaded, Sends, Tried, TriedLine, TriedAll, Stepped, Preflow, Settled, Fresh, Opening};
 
 use crate::hand::Hand;
-use crate::residual::Way;
+use crate::residual::{Way, clear_marks};
+use crate::search::clear_work;
 use crate::task::{Method, answer};
 use network::{Engine, Flow, Line, Pair, SiteWork};
+
+// Takes one unit of surplus from p to q.
+fn move_surplus(work: &mut [SiteWork], p: usize, q: usize)
+    requires p_within { p < length work.old }
+    requires q_within { q < length work.old }
+    requires apart { p ≢ q }
+    requires has { 0 < surplus_at work.old p }
+    requires room { surplus_at work.old q + 1 < 2 ^ 16 }
+    ensures { work.new ≡ moved work.old p q }
+{
+    work[p].surplus -= 1;
+    work[q].surplus += 1;
+}
+
+fn raise(work: &mut [SiteWork], p: usize)
+    requires within { p < length work.old }
+    requires room { height_at work.old p + 1 < 2 ^ 16 }
+    ensures { work.new ≡ raised work.old p }
+{
+    work[p].height += 1;
+}
 
 // Whether the line is one of p's.
 fn touches(line: &Line, p: usize) -> bool
@@ -17,32 +39,8 @@ fn touches(line: &Line, p: usize) -> bool
 }
 
 impl Hand<'_> {
-    // Takes one unit of surplus from p to q.
-    fn move_surplus(&mut self, p: usize, q: usize)
-        requires p_within { p < self.old.pair.net.sites }
-        requires q_within { q < self.old.pair.net.sites }
-        requires apart { p ≢ q }
-        requires has { 0 < surplus_at self.old.work.now p }
-        requires room { surplus_at self.old.work.now q + 1 < 2 ^ 16 }
-        ensures same { SameHand self.old self.new }
-        ensures marks { self.new.marks.now ≡ self.old.marks.now }
-        ensures moved { self.new.work.now ≡ moved self.old.work.now p q }
-    {
-        self.work[p].surplus -= 1;
-        self.work[q].surplus += 1;
-    }
-
-    fn raise(&mut self, p: usize)
-        requires within { p < self.old.pair.net.sites }
-        requires room { height_at self.old.work.now p + 1 < 2 ^ 16 }
-        ensures same { SameHand self.old self.new }
-        ensures marks { self.new.marks.now ≡ self.old.marks.now }
-        ensures raised { self.new.work.now ≡ raised self.old.work.now p }
-    {
-        self.work[p].height += 1;
-    }
-
-    // Sends one unit of p's surplus that way, if it leads from p and the line takes one.
+    // Sends one unit of p's surplus that way, if it leads from p and the line takes one. That p is loaded stays a clause: the
+    // unit may be p's last, so no struct of the hand and p could keep it as a field.
     fn try_send(&mut self, p: usize, way: Way) -> bool
         requires listed { way.line < length self.old.pair.net.lines.now }
         requires loaded { Loaded self.old.work.now p }
@@ -51,8 +49,8 @@ impl Hand<'_> {
     {
         let (from, to) = way.ends(self);
         if from == p && way.takes(self) {
-            way.send(self);
-            self.move_surplus(from, to);
+            way.send(self.marks);
+            move_surplus(self.work, from, to);
             true
         } else {
             false
@@ -118,7 +116,7 @@ impl Hand<'_> {
         ensures stepped { Stepped self.old.pair.net.lines.now self.old.marks.now self.old.work.now self.new.marks.now self.new.work.now p }
     {
         if !self.push_from(p) {
-            self.raise(p);
+            raise(self.work, p);
         }
     }
 
@@ -141,7 +139,7 @@ impl Hand<'_> {
         ensures marks { self.new.marks.now ≡ self.old.marks.now }
         ensures fresh { Fresh self.new.work.now self.old.pair.a (length self.old.pair.net.lines.now) }
     {
-        self.clear_work();
+        clear_work(self.work);
         let Pair { net, a, .. } = self.pair;
         self.work[a] = SiteWork {
             height: net.sites as u16,
@@ -169,7 +167,7 @@ pub struct Push {}
 impl Method for Push {
     // Sends from a all that its lines take, and moves the surplus on until it has come to b or is back at a.
     fn run(hand: &mut Hand<'_>) -> Flow {
-        hand.clear_marks();
+        clear_marks(hand.marks);
         hand.prepare();
         hand.saturate();
         hand.drain();

@@ -4,7 +4,6 @@ ghost use Rattle.std.specs.Prelude.{◌≡◌, ℕ, ◌<◌, length};
 ghost use Rattle.network.specs.Lines.{line_at};
 ghost use Rattle.network.specs.Flow.{mark_at};
 ghost use Rattle.engines.specs.Arcs.{code, tail, head, arc, sent_over};
-ghost use Rattle.engines.specs.Hands.{SameHand};
 
 use crate::hand::Hand;
 
@@ -53,13 +52,11 @@ impl Way {
     }
 
     // Sends one unit this way: an unused line starts to carry, one that carries the other way stops.
-    pub fn send(self, hand: &mut Hand<'_>)
-        requires { self.line < length hand.old.pair.net.lines.now }
-        ensures same { SameHand hand.old hand.new }
-        ensures kept { hand.new.work.now ≡ hand.old.work.now }
-        ensures sent { hand.new.marks.now ≡ sent_over hand.old.marks.now self.line self.from_first }
+    pub fn send(self, marks: &mut [u8])
+        requires { self.line < length marks.old }
+        ensures { marks.new ≡ sent_over marks.old self.line self.from_first }
     {
-        hand.marks[self.line] = if hand.marks[self.line] != 0 {
+        marks[self.line] = if marks[self.line] != 0 {
             0
         } else {
             self.code()
@@ -67,11 +64,8 @@ impl Way {
     }
 }
 
-impl Hand<'_> {
-    pub fn clear_marks(&mut self)
-        ensures same { SameHand self.old self.new }
-        ensures cleared { (k : ℕ) → k < length self.new.marks.now → mark_at self.new.marks.now k ≡ 0 }
-    {
-        self.marks.fill(0);
-    }
+pub fn clear_marks(marks: &mut [u8])
+    ensures { (k : ℕ) → k < length marks.new → mark_at marks.new k ≡ 0 }
+{
+    marks.fill(0);
 }

@@ -12,20 +12,33 @@ use crate::residual::Way;
 use network::side::insert;
 use network::{Line, SiteWork};
 
-impl Hand<'_> {
-    fn note_seen(&mut self, q: usize, by: u16, layer: u16)
-        requires { q < self.old.pair.net.sites }
-        ensures same { SameHand self.old self.new }
-        ensures marks { self.new.marks.now ≡ self.old.marks.now }
-        ensures seen { self.new.work.now ≡ slice_set self.old.work.now q (noted by layer (site_at self.old.work.now q)) }
-    {
-        self.work[q] = SiteWork {
-            parent: by,
-            seen: layer,
-            ..self.work[q]
-        };
-    }
+fn note_seen(work: &mut [SiteWork], q: usize, by: u16, layer: u16)
+    requires { q < length work.old }
+    ensures { work.new ≡ slice_set work.old q (noted by layer (site_at work.old q)) }
+{
+    work[q] = SiteWork {
+        parent: by,
+        seen: layer,
+        ..work[q]
+    };
+}
 
+pub fn clear_work(work: &mut [SiteWork])
+    ensures { (q : ℕ) → site_at work.new q ≡ no_site }
+{
+    work.fill(SiteWork::default());
+}
+
+fn start_search(work: &mut [SiteWork], a: usize)
+    requires { a < length work.old }
+    ensures begun { (ls : List Line) (ms : List ℕ) → Round ls ms a 1 false (λ k e. ⊥) work.new }
+    ensures others { (q : ℕ) → q ≢ a → seen_at work.new q ≡ 0 }
+{
+    clear_work(work);
+    note_seen(work, a, 0, 1);
+}
+
+impl Hand<'_> {
     // Sees the place that the way leads to, where it comes from one at the layer.
     fn try_reach(&mut self, way: Way, layer: u16) -> bool
         requires listed { way.line < length self.old.pair.net.lines.now }
@@ -37,7 +50,7 @@ impl Hand<'_> {
     {
         let (p, q) = way.ends(self);
         if self.work[p].seen == layer && self.work[q].seen == 0 && way.takes(self) {
-            self.note_seen(q, way.line as u16, layer + 1);
+            note_seen(self.work, q, way.line as u16, layer + 1);
             true
         } else {
             false
@@ -77,24 +90,6 @@ impl Hand<'_> {
         found
     }
 
-    pub fn clear_work(&mut self)
-        ensures same { SameHand self.old self.new }
-        ensures marks { self.new.marks.now ≡ self.old.marks.now }
-        ensures cleared { (q : ℕ) → site_at self.new.work.now q ≡ no_site }
-    {
-        self.work.fill(SiteWork::default());
-    }
-
-    fn start_search(&mut self)
-        ensures same { SameHand self.old self.new }
-        ensures marks { self.new.marks.now ≡ self.old.marks.now }
-        ensures begun { (ls : List Line) (ms : List ℕ) → Round ls ms self.old.pair.a 1 false (λ k e. ⊥) self.new.work.now }
-        ensures others { (q : ℕ) → q ≢ self.old.pair.a → seen_at self.new.work.now q ≡ 0 }
-    {
-        self.clear_work();
-        self.note_seen(self.pair.a, 0, 1);
-    }
-
     // Looks for a way from a to b over lines that can still carry, layer by layer. Where there is none, the places seen
     // are all that can be reached from a.
     pub fn search(&mut self) -> bool
@@ -102,7 +97,7 @@ impl Hand<'_> {
         ensures marks { self.new.marks.now ≡ self.old.marks.now }
         ensures found { MatchBool result (Found self.old.pair.net.lines.now self.old.marks.now self.new.work.now self.old.pair.a self.old.pair.b) (Stuck self.old.pair.net.lines.now self.old.marks.now self.new.work.now self.old.pair.a self.old.pair.b) }
     {
-        self.start_search();
+        start_search(self.work, self.pair.a);
         let mut layer = 1;
         'rounds: while self.scan_round(layer) {
             if self.work[self.pair.b].seen != 0 {

@@ -8,7 +8,7 @@ ghost use Rattle.engines.specs.Arcs.{tail, sent_over, Sent};
 ghost use Rattle.engines.specs.Search.{parent_at, way_in, Found};
 
 use crate::hand::Hand;
-use crate::residual::Way;
+use crate::residual::{Way, clear_marks};
 use crate::task::{Method, answer};
 use network::{Engine, Flow, Line, SiteWork};
 
@@ -24,7 +24,7 @@ impl Hand<'_> {
     {
         let line = self.work[c].parent as usize;
         let way = Way::over(line, self.pair.net.lines[line].second as usize == c);
-        way.send(self);
+        way.send(self.marks);
         way.ends(self).0
     }
 
@@ -50,7 +50,7 @@ pub struct ShortestRoute {}
 impl Method for ShortestRoute {
     // Sends units from a to b, one at a time, until no further route is left.
     fn run(hand: &mut Hand<'_>) -> Flow {
-        hand.clear_marks();
+        clear_marks(hand.marks);
         let mut value = 0;
         'units: while hand.search() {
             hand.augment();

@@ -35,12 +35,12 @@ pub trait Method {
         ensures flows { Flows hand.old.pair.net.sites hand.old.pair.net.lines.now hand.old.pair.a hand.old.pair.b hand.old.marks.now hand.new.marks.now result.value result.side };
 }
 
-// What the method answers on the pair, with just as many marks and records as there are lines and sites.
+// What the method answers on the pair, with just as many marks and records as there are lines and sites. It takes these
+// as its own parameters: of a hand made of `&mut marks[..n]` in place, the check knows only the length afterwards.
 fn start<M: Method>(pair: Pair<'_>, marks: &mut [u8], work: &mut [SiteWork]) -> Flow
     requires marked { length marks.old ≡ length pair.net.lines.now }
     requires kept { length work.old ≡ pair.net.sites }
-    ensures sized { length marks.new ≡ length marks.old }
-    ensures flows { Flows pair.entry.net.sites pair.entry.net.lines.now pair.entry.a pair.entry.b marks.old marks.new result.value result.side }
+    ensures { Flows pair.entry.net.sites pair.entry.net.lines.now pair.entry.a pair.entry.b marks.old marks.new result.value result.side }
 {
     M::run(&mut Hand { pair, marks, work })
 }

@@ -1,4 +1,3 @@
-use Rattle.std.proofs.Common.{}
 use Rattle.engines.specs.Heights.{Sends}
 use Rattle.engines.proofs.Arcs.{joined_in, over_by}
 use Rattle.engines.proofs.Hands.{same_then}

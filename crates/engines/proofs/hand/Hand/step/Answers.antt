@@ -8,6 +8,5 @@ returns-else-not-push_from-clause-stepped c =
 
 pub returns-then-not-push_from-clause-stepped : goal.returns-then-not-push_from-clause-stepped
 returns-then-not-push_from-clause-stepped c =
-    rw c.raise.ensures.marks
-    (step_raised c.args.self.now c.args.p c.requires.loaded.has
-    c.push_from.new.self.marks.now c.push_from.new.self.work.now c.raise.new.self.work.now c.requires.within c.if-not-push_from.ensures.tried c.raise.ensures.raised)
+    step_raised c.args.self.now c.args.p c.requires.loaded.has
+    c.push_from.new.self.marks.now c.push_from.new.self.work.now c.raise.new.work c.requires.within c.if-not-push_from.ensures.tried c.raise.ensures

@@ -12,7 +12,7 @@ use Rattle.engines.proofs.push.PushMethod.run.Goals as goal
 pub saturate-requires : goal.saturate-requires
 saturate-requires c =
     let h = c.prepare.new.self in
-    let unused : ((k : ℕ) → mark_at h.marks.now k ≡ 0) = rw c.prepare.ensures.marks (all_unused c.clear_marks.new.self.marks.now c.clear_marks.ensures.cleared) in
+    let unused : ((k : ℕ) → mark_at h.marks.now k ≡ 0) = rw c.prepare.ensures.marks (all_unused c.clear_marks.new.marks c.clear_marks.ensures) in
     record { begun = opening_none h.pair.net.lines.now h.marks.now h.work.now h.pair.a unused (rw c.prepare.ensures.same.pair c.prepare.ensures.fresh) }
 
 pub drain-requires : goal.drain-requires
@@ -31,7 +31,7 @@ returns-clause-flows c =
     let after = c.search.new.self in
     let same = c.search.ensures.same.pair in
     let whole : after.pair ≡ c.args.hand.now.pair =
-    same ∙ c.drain.ensures.same.pair ∙ c.saturate.ensures.same.pair ∙ c.prepare.ensures.same.pair ∙ c.clear_marks.ensures.same.pair in
+    same ∙ c.drain.ensures.same.pair ∙ c.saturate.ensures.same.pair ∙ c.prepare.ensures.same.pair in
     let in_a = q.a_within in
     let in_b = q.b_within in
     let ended : Preflow ls ms ws q.a q.b = rw c.drain.ensures.same.pair c.drain.ensures.ended in

@@ -1,4 +1,4 @@
-use Rattle.std.proofs.Common.{◌≡◌, ◌+◌, ◌≤◌, ◌∙◌, length, arith}
+use Rattle.std.proofs.Common.{◌≡◌, ◌+◌, ◌≤◌, refl, ◌∙◌, length, arith}
 use Rattle.network.specs.Flow.{Balanced}
 use Rattle.engines.proofs.Cuts.{answered, value_le, all_unused, none_balanced, none_marked}
 use Rattle.engines.proofs.Walks.{sent_balanced}
@@ -8,13 +8,10 @@ use Rattle.engines.proofs.shortest.ShortestRouteMethod.run.Goals.{After-augment}
 pub units-init : goal.units-init
 units-init c =
     let q = c.args.hand.now.pair in
-    let h = c.clear_marks.new.self in
-    let unused = all_unused h.marks.now c.clear_marks.ensures.cleared in (
-      c.clear_marks.ensures.same,
-      record {
-        marked = none_marked q.net.lines.now h.marks.now unused;
-        balanced = none_balanced q.net.lines.now h.marks.now q.a q.b unused;
-      },
+    let ms = c.clear_marks.new.marks in
+    let unused = all_unused ms c.clear_marks.ensures in (
+      record { pair = refl; marks = refl; work = refl },
+      record { marked = none_marked q.net.lines.now ms unused; balanced = none_balanced q.net.lines.now ms q.a q.b unused },
     )
 
 -- the hand from the start to the search of a round
