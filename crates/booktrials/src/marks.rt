@@ -40,6 +40,7 @@ impl<E: Engine> Trial<'_, E> {
 }
 
 // Shows the booking 1 of one desk on the book of another, which is to write so many numbers.
+// The ticket is of one desk and the book of another, so that no method of one trial does it.
 fn show_on<E: Engine>(
     rt: &HostRuntime,
     call: &str,

@@ -18,8 +18,8 @@ pub struct Booking<'a, 'b> {
     pub second: usize,
 }
 
-/// The runs of a list, each its count and then as many numbers; one that the list is too short for is none, and the
-/// last.
+/// The runs of a list, each its count and then as many numbers. Where the list is too short for one, that one is `None` and the
+/// last: the iterator that the program prints by passes over a torn end, which is a fault here.
 #[derive(Clone, Copy)]
 struct Runs<'a>(&'a [u16]);
 

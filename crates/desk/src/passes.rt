@@ -6,13 +6,14 @@ ghost use Rattle.desk.specs.Passes.{number_of, pass_with};
 
 use crate::pass::Pass;
 use book::Ticket;
+use network::MOST_LINES;
 use std::alloc::{AllocError, Global};
 
 /// Room for the passes of as many bookings as can stand: each holds a line, and a network has at most 512.
 pub(crate) fn room_for_all(heap: Global) -> Result<Vec<Pass>, AllocError>
     ensures { IfOk result (λ v. (v.items ≡ []) × (512 ≤ vec_capacity v)) }
 {
-    Vec::with_capacity(heap, 512)
+    Vec::with_capacity(heap, MOST_LINES)
 }
 
 /// Puts a ticket after all others.

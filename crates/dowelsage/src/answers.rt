@@ -66,6 +66,7 @@ impl<E> Session<'_, E> {
         Ok(())
     }
 
+    // One function for both, over rows of any kind, would have to be told that they end.
     fn print_lines(&self) -> anyhow::Result<()> {
         for line in self.desk.book().lines() {
             let row = LineRow {

@@ -32,14 +32,18 @@ impl Error for NotTaken {}
 
 // Takes `k` routes into the list and walks them; the list past them has to stay as it was.
 fn take_into(marking: &Marking<'_>, k: usize, list: &mut [u16]) -> Result<(), NotTaken> {
-    match take_routes(marking, k, list) {
-        None if is_old(list, 0) => Err(NotTaken::Refused),
-        Some(count)
-            if is_old(list, count)
-                && list
-                    .get(..count)
-                    .is_some_and(|numbers| all_walk(*marking, numbers, k)) => { Ok(()) }
-        _ => Err(NotTaken::Wrong),
+    let Some(count) = take_routes(marking, k, list) else {
+        return Err(if is_old(list, 0) {
+            NotTaken::Refused
+        } else {
+            NotTaken::Wrong
+        });
+    };
+    let (numbers, rest) = list.split_at_checked(count).ok_or(NotTaken::Wrong)?;
+    if is_old(rest, 0) && all_walk(*marking, numbers, k) {
+        Ok(())
+    } else {
+        Err(NotTaken::Wrong)
     }
 }
 

@@ -6,6 +6,8 @@ use routes::Marking;
 use std::mem;
 
 /// Walks routes of a marking over its lines, of which no two pass the same one.
+// It walks positions of lines that are free now, and the trials of the book numbers of lines as they were: one walker for both
+// would be handed each step by a closure.
 #[derive(Drop)]
 struct Walker<'a> {
     marking: Marking<'a>,
@@ -42,7 +44,8 @@ impl Walker<'_> {
     }
 }
 
-// The first of the runs of a list, each its count and then as many numbers, and the list after it.
+// The first of the runs of a list, each its count and then as many numbers, and the list after it. The iterator that the
+// program prints by passes over a torn end, which is a fault here.
 fn first_run(list: &[u16]) -> Option<(&[u16], &[u16])> {
     let (count, rest) = list.split_first()?;
     rest.split_at_checked(usize::from(*count))
