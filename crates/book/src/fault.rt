@@ -7,7 +7,7 @@ use netfile::NetworkFault;
 use network::Flow;
 use std::fmt;
 
-// Flat, as the four layers are published: nested in a variant of its own, the reader's three would be named in two places.
+// Flat: the four layers are published side by side, and the definition of a fault's layer names each.
 /// The layer that speaks a denial.
 #[derive(Debug, Clone, Copy, PartialEq, Eq)]
 pub enum Layer {

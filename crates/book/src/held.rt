@@ -41,6 +41,6 @@ pub struct Book<E> {
     // the tree is that of the lines that are free now
     ghost spans: { tree.sites ≡ vec_len sites },
     ghost tells: { (0 < vec_len sites → ∥ TreeOf (vec_len sites) lines.items tree ∥₁) },
-    // a book that holds no network is as it was made
+    // a book that holds no network is as it was made; it is no `Option` of an opened one, since its memory is laid aside before
     ghost unopened: { (vec_len sites ≡ 0 → (mark ≡ 0) × (count ≡ 0)) },
 }

@@ -4,7 +4,7 @@ use crate::say::say;
 use desk::Desk;
 use network::Engine;
 
-/// A desk that is tried, and where what came is printed.
+/// A desk that is tried, and where what came is printed. (The program's session has the same two, and prints replies.)
 #[derive(Drop)]
 pub struct Trial<'a, E> {
     pub rt: &'a HostRuntime,

@@ -19,7 +19,7 @@ pub struct Booking<'a, 'b> {
 }
 
 /// The runs of a list, each its count and then as many numbers. Where the list is too short for one, that one is `None` and the
-/// last: the iterator that the program prints by passes over a torn end, which is a fault here.
+/// last: the program's iterator ends at a torn list as at a whole one, which is a fault here.
 #[derive(Clone, Copy)]
 struct Runs<'a>(&'a [u16]);
 

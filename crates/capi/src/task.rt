@@ -35,7 +35,8 @@ pub trait Task {
         ensures { OnNetwork (check self.now) (done self.now) (sites_of desk.old.book) (lines_of desk.old.book) list.old list.new result };
 }
 
-/// Does the task over the engine of a number.
+/// Does the task over the engine of a number. File, task and list are passed on one by one here and below: a struct of them would
+/// be taken apart at each step.
 pub fn with_engine<T: Task>(
     engine: u32,
     heap: Global,
@@ -45,7 +46,7 @@ pub fn with_engine<T: Task>(
 ) -> Result<T::Answer, Refusal>
     ensures { OverAny (T.check task.now) (T.done task.now) engine bytes.now list.old list.new result }
 {
-    // each arm is a type, so that no closure or table of functions can stand for the two
+    // each arm is a type, picked by a number as the program runs: a table of functions would say the same
     match engine {
         0 => with_desk::<ShortestRoute, T>(heap, bytes, task, list),
         1 => with_desk::<Push, T>(heap, bytes, task, list),
@@ -68,7 +69,7 @@ fn with_desk<E: Engine, T: Task>(
     answer
 }
 
-// A desk that is lent: where the file is at fault, its owner closes it all the same.
+// Opens the file on a desk that is lent and does the task there: whatever comes of it, the owner of the desk can close it.
 fn on_file<E: Engine, T: Task>(
     desk: &mut Desk<E>,
     bytes: &[u8],

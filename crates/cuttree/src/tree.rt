@@ -4,7 +4,7 @@ ghost use Rattle.cuttree.specs.Nodes.{parent_of, order_of};
 use network::MOST_SITES;
 
 /// How a place hangs in the tree: the place that it was joined to, the weight of that edge, and when it was joined. The
-/// default stands for a place that has not been joined.
+/// default stands for a place that has not been joined, and for the root: as an `Option` it would be looked into at each climb.
 #[derive(Default, Clone, Copy)]
 pub struct Node {
     pub(crate) parent: u8,

@@ -19,7 +19,7 @@ lines             every line, by place in the file
 help              this text
 quit              leave; what still stands is released";
 
-// The number of groups, and by place the first site of each site's group.
+// The number of groups, and by place the first site of each site's group. (The test program's row has another word.)
 #[derive(Clone, Copy)]
 struct GroupsRow<'a> {
     groups: usize,

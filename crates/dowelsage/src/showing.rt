@@ -8,7 +8,7 @@ use crate::session::Session;
 use network::Engine;
 use replies::{RouteRow, Routes};
 
-// How many routes a walk gives until its end.
+// How many routes an iterator gives: what the count means is proved here, and what the list holds one function further.
 fn count_given(walk: Routes<'_>) -> usize
     ensures { (routes : _) × Drains ⟦<Routes<'static> as Iterator>⟧.next_gives walk.entry routes × (result ≡ length routes) }
 {

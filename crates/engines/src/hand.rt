@@ -4,7 +4,8 @@ ghost use Rattle.std.specs.Prelude.{◌≡◌, length};
 
 use network::{Pair, SiteWork};
 
-/// The pair of places that an engine works on, with a mark for each line of their network and a record for each site.
+/// The pair of places that an engine works on, with a mark for each line of their network and a record for each site. That the
+/// hand stays the same one is a clause of each method: of a hand that it has lent, a caller knows nothing else.
 #[derive(Drop)]
 pub struct Hand<'a> {
     pub pair: Pair<'a>,

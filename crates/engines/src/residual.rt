@@ -28,6 +28,7 @@ impl Way {
         ensures tail { result.0 ≡ tail (line_at hand.now.pair.net.lines.now self.line) self.from_first }
         ensures head { result.1 ≡ head (line_at hand.now.pair.net.lines.now self.line) self.from_first }
     {
+        // places are cast by `as` in the engines: with `from` the loops' proofs were left open
         let line = &hand.pair.net.lines[self.line];
         if self.from_first {
             (line.first as usize, line.second as usize)

@@ -58,8 +58,8 @@ impl Hand<'_> {
     }
 
     // Whether the layers of the two ends of the line add up to the layer, as they do where one end is at it and the other
-    // is not seen. Most lines are passed by on this one test. It casts by `as`, here and elsewhere in the engines: after `from`
-    // the check no longer knows that a sum of two layers fits.
+    // is not seen. Most lines are passed by on this one test. It casts by `as`: after `from` the check
+    // no longer knows that a sum of two layers fits.
     fn may_reach(&self, line: &Line, layer: u16) -> bool
         requires { Joins self.now.pair.net.sites line.now }
         ensures { result ≡ adds_up layer line.now self.now.work.now }
@@ -98,6 +98,7 @@ impl Hand<'_> {
         ensures found { MatchBool result (Found self.old.pair.net.lines.now self.old.marks.now self.new.work.now self.old.pair.a self.old.pair.b) (Stuck self.old.pair.net.lines.now self.old.marks.now self.new.work.now self.old.pair.a self.old.pair.b) }
     {
         start_search(self.work, self.pair.a);
+        // how many layers there are shows only where a round finds nothing
         let mut layer = 1;
         'rounds: while self.scan_round(layer) {
             if self.work[self.pair.b].seen != 0 {

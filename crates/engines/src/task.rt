@@ -7,7 +7,7 @@ ghost use Rattle.engines.specs.Hands.{SameHand};
 use crate::hand::Hand;
 use network::{Flow, Line, Pair, SiteWork};
 
-// The pair of places of a call that an engine takes; it declines every other.
+// The pair of places of a call that an engine takes; it declines every other. What it is handed is what the public trait lends.
 fn taken<'a>(
     sites: usize,
     lines: &'a [Line],

@@ -10,7 +10,7 @@ pub trait Numbered {
     fn count(&self) -> usize
         ensures { result ≡ length (numbers self.now) };
 
-    /// The number of the record at a position; 0 past the last one.
+    /// The number of the record at a position; 0 past the last one, so that nothing is asked of a caller.
     fn number(&self, i: usize) -> u16
         ensures { result ≡ slice_index (numbers self.now) i };
 }

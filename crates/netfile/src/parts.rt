@@ -15,7 +15,7 @@ pub struct Part<'a, const N: usize> {
 }
 
 impl<'a, const N: usize> Part<'a, N> {
-    /// The records in an extent of the file.
+    /// The records in an extent of the file. The size is asked for here and in two checks, where no part is made yet that says it.
     #[tactic(auto, using(crate::proofs::Chunks::records_are_chunks))]
     pub fn read(bytes: &'a [u8], extent: Extent) -> Part<'a, N>
         requires sized { IsRecordSize N }

@@ -1,7 +1,8 @@
 ghost use Rattle.std.specs.Prelude.{◌≡◌, Decides};
 ghost use Rattle.network.specs.Lines.{is_free, Joins, AllJoin};
 
-/// What a line is doing now: free, or held by the booking of a number. It is no `Option`, since a line may one day be neither.
+/// What a line is doing now: free, or held by the booking of a number. It is no `Option`: the field is public, `None` would not
+/// say that a line is free, and a line may one day be neither.
 #[derive(Debug, Clone, Copy, PartialEq, Eq)]
 pub enum LineState {
     Free,

@@ -79,7 +79,7 @@ pub struct LineRow<'a> {
     pub sites: &'a [Site],
 }
 
-// The number of the site at a place.
+// The number of the site at a place; 0 where there is none, which no line of a book has.
 fn site_number(sites: &[Site], place: u8) -> u16 {
     sites.get(usize::from(place)).map_or(0, |site| site.number)
 }

@@ -82,6 +82,7 @@ pub fn walk(pair: &Pair<'_>, left: &mut [u8], path: &mut [u16]) -> usize
     requires space { carriers pair.now.net.lines.now left.old ≤ length path.old }
     ensures { Back pair.now left.old left.new pair.now.a path.new result }
 {
+    // each step changes the marks, and its line is found only at the place before it: no iterator walks so
     let mut top = path.len();
     let mut place = pair.b;
     'back: while place != pair.a {

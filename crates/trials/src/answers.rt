@@ -24,7 +24,7 @@ pub struct Question<'a> {
     pub work: usize,
 }
 
-/// What an engine answered, none where it declined, and what was found of it.
+/// What an engine answered, none where it declined, and what was found of it: an answer that is not sound is printed too.
 #[derive(Clone, Copy)]
 pub struct Asked {
     pub flow: Option<Flow>,

@@ -2,7 +2,7 @@
 
 use network::SiteWork;
 
-/// A number or a record that is told again after a call that was not to write over it.
+/// What a list is filled with before a call, to see afterwards where the call wrote.
 pub trait Old: Copy + PartialEq {
     const OLD: Self;
 }

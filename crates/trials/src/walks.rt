@@ -44,8 +44,8 @@ impl Walker<'_> {
     }
 }
 
-// The first of the runs of a list, each its count and then as many numbers, and the list after it. The iterator that the
-// program prints by passes over a torn end, which is a fault here.
+// The first of the runs of a list, each its count and then as many numbers, and the list after it. The program's iterator
+// ends at a torn list as at a whole one, which is a fault here; and the trials of the book take all runs, where k are wanted here.
 fn first_run(list: &[u16]) -> Option<(&[u16], &[u16])> {
     let (count, rest) = list.split_first()?;
     rest.split_at_checked(usize::from(*count))

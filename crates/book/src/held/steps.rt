@@ -115,7 +115,7 @@ impl<E: Engine> Book<E> {
         self.tree = tree_of::<E>(&self.sites, &self.lines);
     }
 
-    /// The work of a booking.
+    /// The work of a booking; its three numbers are those of the public call.
     pub(super) fn enter(&mut self, first: u16, second: u16, k: u32) -> Result<Ticket, Fault>
         ensures { Booked self.old first second k self.new result }
     {

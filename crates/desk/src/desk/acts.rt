@@ -59,7 +59,8 @@ impl<E: Engine> Desk<E> {
         Ok(number)
     }
 
-    /// Releases a booking; false where the desk holds no ticket of that number.
+    /// Releases a booking; false where the desk holds no ticket of that number, as a set answers that is to give up what it has
+    /// not: nothing comes along with either answer.
     pub fn release(&mut self, number: u16) -> bool
         ensures { Ended self.old number self.new result }
     {

@@ -1,4 +1,4 @@
-use Rattle.std.proofs.Common.{vec_items, sym, ◌∙◌, arith}
+use Rattle.std.proofs.Common.{vec_items, arith}
 use Rattle.desk.specs.Desks.{passes_of}
 use Rattle.desk.proofs.Keeping.{kept_of, inside, good_of, accepted, is_accepted, kept_removed}
 use Rattle.desk.proofs.desk.Desk.release_at.Goals as goal
@@ -17,16 +17,3 @@ unwrap-requires g c =
     let d = c.args.self.now in
     let q = good_of d c.args.place c.remove.result c.requires c.remove.ensures.value in
     is_accepted d.book c.remove.result.ticket c.release.new.self c.release.result q.mark q.stands_there c.release.ensures
-
-pub returns : goal.returns
-returns g c =
-    let d = c.args.self.now in
-    let q = good_of d c.args.place c.remove.result c.requires c.remove.ensures.value in
-    record {
-      ticket = c.remove.result.ticket;
-      number = sym c.number-number.ensures;
-      here = q.number ∙ sym c.number-number.ensures;
-      within = inside d c.args.place c.requires;
-      released = accepted d.book c.remove.result.ticket c.release.new.self c.release.result q.mark q.stands_there c.release.ensures;
-      passes = c.remove.ensures.items;
-    }
