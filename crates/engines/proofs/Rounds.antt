@@ -1,6 +1,6 @@
 -- The rounds of a search.
 use Rattle.std.proofs.Common.{◌≡◌, ℕ, ◌+◌, ◌<◌, ◌≤◌, Bool, true, false, cond, ◌&&◌, ◌||◌, eqb, ◌⊎◌, List, length, set, sym, refl, ap, ◌∙◌, subst, inl, inr, arith}
-use Rattle.std.proofs.lemmas.List.Sums.{sum_by-set, count_by-le-length}
+use Rattle.std.proofs.lemmas.List.Sums.{sum_by-set}
 use Rattle.std.proofs.lemmas.List.{length-set, get_or-set_same, get_or-set_other}
 use Rattle.std.proofs.lemmas.Bool.{cases_eq, cases_Bool, eqb-true, and_parts, eq-eqb, ne_eqb, cond-true, cond-false, true≢false}
 use Rattle.std.proofs.lemmas.Bool.Decides.{nat_tests}
@@ -164,12 +164,6 @@ module _ (ls : List Line) (ms : List ℕ) (a d : ℕ) where
       (round_reach (found || forth) (And Before i true) ws₁ ws₂ i false back inside (joins_at (length ws) (length ws₁) ls size joins)
       (round_reach found Before ws ws₁ i true forth inside joins r f.0 f.1) b.0 b.1)
 
-  -- the same round by other names
-  pub round_as : (found found' : Bool) (Done : ℕ → Bool → Type 0) (ws ws' : List SiteWork) → found' ≡ found → ws' ≡ ws →
-      Round ls ms a d found Done ws → Round ls ms a d found' Done ws'
-  round_as found found' Done ws ws' f w r =
-      subst (λ (x : Bool). Round ls ms a d x Done ws') (sym f) (subst (λ (x : List SiteWork). Round ls ms a d found Done x) (sym w) r)
-
   -- where neither arc has reached anything, nor one before, the records are as they were
   pub round_idle : (found forth back : Bool) (ws₀ ws ws₁ ws₂ : List SiteWork) (i : ℕ) → ((found || forth) || back) ≡ false →
       (found ≡ false → ws ≡ ws₀) → Reached ls ms d ws ws₁ forth i true → Reached ls ms d ws₁ ws₂ back i false → ws₂ ≡ ws₀
@@ -190,26 +184,3 @@ module _ (ls : List Line) (ms : List ℕ) (a d : ℕ) where
       let none = no_reach ws i in
       subst (λ (x : Bool). Round ls ms a d x (λ k _. k < i + 1) ws) found_is
       (round_line found ws ws ws i false false inside joins refl r (sym (none true (sym is ∙ off)), refl) (sym (none false (sym is ∙ off)), refl))
-
--- the first round
-pub round_first : (ls : List Line) (ms : List ℕ) (a : ℕ) (ws ws' : List SiteWork) → a < length ws → ((p : ℕ) → seen_at ws p ≡ 0) →
-    ws' ≡ set ws a (noted 0 1 (site_at ws a)) → Round ls ms a 1 false (λ k _. ⊥) ws'
-round_first ls ms a ws ws' inside dark is =
-    let g : Grown ws ws' a 0 0 = subst (λ (x : List SiteWork). Grown ws x a 0 0) (sym is) (grown ws a 0 0 inside (dark a)) in
-    let low : (q : ℕ) → seen_at ws' q ≤ 1 = λ q. elim (cases_eq q a) [
-      | inl eq ↦ omega (arith, ap (seen_at ws') eq, g.layer)
-      | inr ne ↦ omega (arith, ap (λ (w : SiteWork). w.seen) (g.same q ne), dark q)
-    ] in
-    record {
-      started = omega arith;
-      root = g.layer;
-      tree = λ q h lit. elim (cases_eq q a) [
-        | inl eq ↦ inl eq
-        | inr ne ↦ absurd (omega (arith, ap (λ (w : SiteWork). w.seen) (g.same q ne), dark q))
-      ];
-      top = λ q. omega (arith, low q);
-      below = λ k e lt lit under tk. absurd (omega arith);
-      here = λ k e no'. absurd no';
-      quiet = λ _. low;
-      room = omega (arith, g.fewer, g.size, count_by-le-length (λ (w : SiteWork). eqb w.seen 0) ws);
-    }

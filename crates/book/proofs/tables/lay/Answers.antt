@@ -1,18 +1,7 @@
-use Rattle.std.proofs.Common.{◌<◌, length, vec_items, vec_len, vec_capacity, Some, None, refl, ap, ◌∙◌, arith}
-use Rattle.std.proofs.lemmas.List.{nil_from_length, take_all}
+use Rattle.std.proofs.Common.{◌<◌, length, vec_items, vec_len, vec_capacity, Some, None, ap, ◌∙◌, arith}
 use Rattle.book.proofs.Laying.{laid_more, laid_there}
 use Rattle.book.proofs.tables.lay.Goals as goal
 use Rattle.book.proofs.tables.lay.Goals.{in-Some, in_default}
-
-pub lay-init : goal.lay-init
-lay-init g c = (
-  refl,
-  omega (arith, c.requires.empty),
-  λ xs size gives. nil_from_length (vec_items c.args.list.now) (omega (arith, c.requires.empty, c.args.list.now.ok.0)),
-)
-
-pub push_reserved-requires : goal.push_reserved-requires
-push_reserved-requires g c = omega (arith, c.lay.invariant.0, c.lay.invariant.1, c.lay-test.true, c.requires.room)
 
 pub lay-preserved : goal.lay-preserved
 lay-preserved g c =
@@ -33,7 +22,3 @@ lay-preserved g c =
             absurd (laid_there xs c.lay.i inside (gives c.lay.i None inside w.in_default.ensures)),
       )
     ]
-
-pub returns-clause-items : goal.returns-clause-items
-returns-clause-items g c =
-    λ xs size gives. c.lay.invariant.2 xs size gives ∙ take_all c.lay.i xs (omega (arith, size, c.lay-test.false))

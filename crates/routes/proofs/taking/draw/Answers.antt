@@ -10,14 +10,6 @@ loop-done-init c = (
   supplies_fewer c.args.pair.now c.args.left.now c.args.k (c.args.k - 0) (omega arith) c.requires.supplies,
 )
 
-pub walk-start-requires : goal.walk-start-requires
-walk-start-requires c =
-    record {
-      supplies = supplies_fewer c.args.pair.now c.loop-done.left (c.args.k - c.loop-done._done) 1 (omega arith) c.loop-done.invariant.1;
-      space = simp length-take (omega (arith, c.loop-done.invariant.0.1.fewer, c.loop-done.invariant.0.1.within, c.requires.space));
-    }
-
--- the part of the store that the walk is given
 size : (c : After-walk-start) → length c.walk-start.new.path ≡ c.loop-done.top
 size c = c.walk-start.auto.path ∙ simp length-take (omega (arith, c.loop-done.invariant.0.1.within))
 

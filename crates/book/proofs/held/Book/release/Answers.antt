@@ -3,22 +3,10 @@ use Rattle.std.proofs.lemmas.Bool.{cases_eq}
 use Rattle.network.specs.declared.line.LineState.TheVariants.{Free}
 use Rattle.network.specs.Lines.{line_at}
 use Rattle.book.specs.Tables.{held_by, total_shown, total_held, without, owned}
-use Rattle.book.proofs.Places.{tells_moved, fits_moved}
+use Rattle.book.proofs.Places.{tells_moved}
 use Rattle.book.proofs.Rows.{sound_without, sound_own, shown_without, held_without}
 use Rattle.book.proofs.Marks.{joined_still, free_back, owned_rest, owned_gone}
 use Rattle.book.proofs.held.Book.release.Goals as goal
-
-pub tree_of-self-requires : goal.tree_of-self-requires
-tree_of-self-requires g c =
-    let b = c.args.self.now in let ls = vec_items b.lines in let ls' = vec_items c.free_all.new.lines in
-    let size : length ls' ≡ length ls = sym c.free_all.new.lines.ok.0 ∙ c.free_all.ensures.len ∙ b.lines.ok.0 in
-    let line = λ (p : ℕ) (l : p < length ls). c.free_all.ensures.line p (omega (arith, l, b.lines.ok.0)) in
-    fits_moved (vec_len b.sites) (length c.deref.result.now) ls' c.deref-2.result.now (sym c.deref.ensures.len) (sym c.deref-2.ensures.value)
-    (record {
-      few_sites = b.few_sites;
-      few_lines = omega (arith, size, b.few_lines, b.lines.ok.0);
-      joined = joined_still (vec_len b.sites) ls ls' (λ p. held_by c.args.ticket.number (line_at ls p).state) Free size line b.joined;
-    })
 
 pub invariant_of-self : goal.invariant_of-self
 invariant_of-self g c =

@@ -19,6 +19,3 @@ back-preserved c =
       new.work ∙ c.back.invariant.1,
       rw (new.same.pair, new.work) (stepped (goal.at.back-preserved c).After-step_back-c).0,
     )
-
-pub back-smaller : goal.back-smaller
-back-smaller c = rw (← c.back.invariant.1) (stepped (goal.at.back-smaller c).After-step_back-c).1

@@ -6,7 +6,7 @@ use Rattle.engines.proofs.Arcs.{joined_in}
 use Rattle.engines.proofs.Cuts.{all_unused, answered}
 use Rattle.engines.proofs.Accounts.{drained}
 use Rattle.engines.proofs.Gaps.{stuck}
-use Rattle.engines.proofs.Openings.{opening_none, opening_all}
+use Rattle.engines.proofs.Openings.{opening_none}
 use Rattle.engines.proofs.push.PushMethod.run.Goals as goal
 
 pub saturate-requires : goal.saturate-requires
@@ -14,12 +14,6 @@ saturate-requires c =
     let h = c.prepare.new.self in
     let unused : ((k : ℕ) → mark_at h.marks.now k ≡ 0) = rw c.prepare.ensures.marks (all_unused c.clear_marks.new.marks c.clear_marks.ensures) in
     record { begun = opening_none h.pair.net.lines.now h.marks.now h.work.now h.pair.a unused (rw c.prepare.ensures.same.pair c.prepare.ensures.fresh) }
-
-pub drain-requires : goal.drain-requires
-drain-requires c =
-    let h = c.saturate.new.self in
-    let q = h.pair in
-    record { begun = opening_all q.net.lines.now h.marks.now h.work.now q.a q.b q.apart (rw c.saturate.ensures.same.pair c.saturate.ensures.opened) }
 
 pub returns-clause-flows : goal.returns-clause-flows
 returns-clause-flows c =
