@@ -98,6 +98,7 @@ impl<E> Trial<'_, E> {
     /// Says a group list.
     pub fn say_groups(&self, k: u32) -> anyhow::Result<()> {
         let book = self.desk.book();
+        // lent to the book, whose calls allocate nothing
         let mut list = [0u16; 64];
         let count = book.groups(k, &mut list);
         let entries = list.get(..book.sites().len()).unwrap_or(&list);

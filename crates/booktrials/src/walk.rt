@@ -58,6 +58,7 @@ fn line_is_right(was: &Line, is: &Line, number: u16, on_route: bool) -> bool {
 #[derive(Drop)]
 struct Walker<'a, 'b> {
     booking: Booking<'a, 'b>,
+    // by position, as the lines are: a set would want the heap at each walk
     used: [bool; MOST_LINES],
 }
 
@@ -65,6 +66,7 @@ impl Walker<'_, '_> {
     // One step of a route: the place after it; none where the line is unknown, used already or not at this place.
     fn step(&mut self, here: usize, number: u16) -> Option<usize> {
         let lines = self.booking.before;
+        // nothing says here that the numbers rise
         let position = lines.iter().position(|line| line.number == number)?;
         let there = across(lines.get(position)?, here)?;
         if mem::replace(self.used.get_mut(position)?, true) {

@@ -32,7 +32,8 @@ fn is_for(pass: &Pass, number: u16) -> bool
     pass.ticket.number() == number
 }
 
-/// The place of the pass with a booking's number, by which it is moved out; it is looked at by the function below.
+/// The place of the pass with a booking's number, by which it is moved out; it is looked at by the function below. They are gone
+/// through, since nothing says here that the numbers rise.
 pub(crate) fn place_of(passes: &[Pass], number: u16) -> Option<usize>
     ensures { result ≡ position (λ p. number_of p == number) passes.now }
 {

@@ -46,6 +46,7 @@ impl<E> Session<'_, E> {
     }
 
     fn print_groups(&self, k: u32) -> anyhow::Result<()> {
+        // lent to the book, whose calls allocate nothing
         let mut list = [0u16; 64];
         let groups = self.desk.book().groups(k, &mut list);
         self.reply(groups, |groups| {

@@ -45,6 +45,7 @@ impl<E: Engine> Session<'_, E> {
             println!(self.rt; "no ticket {number}")?;
             return Ok(());
         };
+        // lent to the book, whose calls allocate nothing
         let mut list = [0u16; 1024];
         let written = self.desk.book().show(&pass.ticket, &mut list);
         self.reply(written, |written| {

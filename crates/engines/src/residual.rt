@@ -8,7 +8,8 @@ ghost use Rattle.engines.specs.Arcs.{code, tail, head, arc, sent_over};
 use crate::hand::Hand;
 
 // A line taken in one of its two directions: from its first place to its second, or back. Which one it is comes from
-// comparing places, and is only asked by `if`: an enum of the two would be made by an `if` from each comparison.
+// comparing places, and is only asked by `if`: an enum of the two would be made by an `if` from each comparison. That its line is
+// listed is a clause of what takes a way: as a fact of the way it would need the network in it.
 #[derive(Clone, Copy)]
 pub struct Way {
     pub line: usize,

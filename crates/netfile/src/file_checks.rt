@@ -14,7 +14,8 @@ use network::{MOST_LINES, MOST_SITES};
 /// The most bytes that a file has.
 const MOST_BYTES: usize = 8192;
 
-/// The checks of header and parts, in their order.
+/// The checks of header and parts, in their order. That the parts are those of these bytes is told at each step, which makes or
+/// passes them anew.
 #[tactic(auto, using(crate::proofs::Head::in_head), unfolding(crate::specs::Meaning::file_fault))]
 pub fn check_file(bytes: &[u8]) -> Result<Parts<'_>, FileFault>
     ensures fault { fault_in result ≡ file_fault bytes.now }

@@ -29,6 +29,7 @@ pub struct Header {
     pub lines: Extent,
 }
 
+// The readers of bytes are functions and no `From`: each has a contract of its own, which a conversion would hide in a member.
 impl Header {
     pub fn read(bytes: &[u8; HEADER_BYTES]) -> Header
         ensures { result ≡ header_in bytes.now }

@@ -8,6 +8,7 @@ use std::fmt;
 pub(crate) fn is_printable(byte: u8) -> bool
     ensures { result ≡ (nat_le 32 byte && nat_lt byte 127) }
 {
+    // as its contract says it, where a range of characters would have to be turned into numbers
     32 <= byte && byte < 127
 }
 
@@ -32,6 +33,7 @@ impl fmt::Display for Printed {
     fn fmt<W: fmt::Write>(&self, f: &mut fmt::Formatter<W>) -> fmt::Result {
         let byte = self.0;
         if is_printable(byte) {
+            // a byte is a character of its own number
             let shown = byte as char;
             write!(f, "{shown}")
         } else {

@@ -116,7 +116,8 @@ pub struct RouteRow<'a> {
 }
 
 impl RouteRow<'_> {
-    // The site that the line of a number leads to from another.
+    // The site that the line of a number leads to from another. The lines are gone through: a row is not told that their numbers
+    // rise.
     fn far_end(&self, number: u16, from: u16) -> u16 {
         let sites = self.sites;
         self.lines

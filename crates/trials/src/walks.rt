@@ -11,6 +11,7 @@ use std::mem;
 #[derive(Drop)]
 struct Walker<'a> {
     marking: Marking<'a>,
+    // by position, as the lines are: a set would want the heap at each walk
     used: [bool; MOST_LINES],
 }
 

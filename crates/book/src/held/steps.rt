@@ -136,7 +136,7 @@ impl<E: Engine> Book<E> {
         Ok(self.ticket(number))
     }
 
-    /// What a booking takes: its routes, written into the list as counts and positions.
+    /// What a booking takes: its routes, written into the list as counts and positions; the three numbers are those of the call.
     fn plan(
         &self,
         first: u16,
