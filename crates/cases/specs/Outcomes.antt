@@ -1,9 +1,11 @@
 -- What the worked calls come to.
-use Rattle.std.specs.Prelude.{◌≡◌, ℕ, true, ◌≢◌, List, slice_index}
+use Rattle.std.specs.Prelude.{◌≡◌, ℕ, true, ◌≢◌, List, slice_index, codes}
 use Rattle.network.specs.declared.line.LineState.TheVariants.{Free}
 use Rattle.network.specs.Answers.{PartedBy}
 use Rattle.network.specs.declared.engine.Flow.{Flow}
 use Rattle.cases.specs.declared.outcome.Outcome.{Outcome}
+use Rattle.cases.specs.declared.outcome.CallFault.{CallFault}
+use Rattle.cases.specs.declared.outcome.CallFault.TheVariants.{OutOfMemory, Denied}
 use Rattle.cases.specs.Table.{worked}
 
 -- four routes from 10 to 20 are too few: three lines cross the side that is shown, which holds 10 and not 20
@@ -22,3 +24,8 @@ pub record Happened (o : Outcome) : Type 0 where
   -- the booking still stood
   pub released : o.released ≡ true
   pub four_denied : FourDenied o.four_denied
+
+-- what is written of calls that came to no outcome
+abbrev pub fault_words : CallFault → List ℕ
+fault_words OutOfMemory = codes "memory allocation failed"
+fault_words (Denied f) = codes "the line book denied a call"

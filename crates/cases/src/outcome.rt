@@ -1,9 +1,12 @@
-ghost use Rattle.std.specs.Prelude.{◌≡◌};
+ghost use Rattle.std.specs.Prelude.{◌≡◌, Some};
+ghost use Rattle.cases.specs.Outcomes.{fault_words};
 ghost use Rattle.cases.specs.declared.outcome.CallFault.TheVariants.{OutOfMemory, Denied};
 
 use book::Fault;
 use network::Flow;
 use std::alloc::AllocError;
+use std::error::Error;
+use std::fmt;
 
 /// What the worked calls came to, all but the last of them accepted.
 #[derive(Debug, Clone, Copy, PartialEq, Eq)]
@@ -22,6 +25,20 @@ pub enum CallFault {
     OutOfMemory,
     Denied(Fault),
 }
+
+// Where memory ran out, the words are those of `AllocError`.
+impl fmt::Display for CallFault {
+    ghost output = { λ e. Some (fault_words e) };
+
+    fn fmt<W: fmt::Write>(&self, f: &mut fmt::Formatter<W>) -> fmt::Result {
+        f.write_str(match self {
+            Self::OutOfMemory => "memory allocation failed",
+            Self::Denied(_) => "the line book denied a call",
+        })
+    }
+}
+
+impl Error for CallFault {}
 
 impl From<AllocError> for CallFault {
     ghost from_gives = { λ _ r. r ≡ OutOfMemory };

@@ -1,5 +1,5 @@
 -- A step keeps what holds between steps: a unit pushed down, or a place raised that no arc leads down from.
-use Rattle.std.proofs.Common.{◌≡◌, ℕ, ◌+◌, ◌*◌, ◌<◌, ◌≤◌, Bool, true, cond, eqb, List, length, sym, ap, ◌∙◌, subst, inl, inr, arith}
+use Rattle.std.proofs.Common.{◌≡◌, ℕ, ◌+◌, ◌*◌, ◌<◌, ◌≤◌, Bool, true, false, cond, eqb, List, length, sym, ap, ◌∙◌, subst, inl, inr, arith}
 use Rattle.std.proofs.lemmas.List.{get_or-set_other}
 use Rattle.std.proofs.lemmas.Bool.{cases_eq, eqb-true, and_parts, and_from, eq-eqb, ne_eqb, cond-false, both_ways}
 use Rattle.std.proofs.lemmas.Bool.Decides.{nat_tests}
@@ -156,3 +156,22 @@ module _ (h : Hand) (p : ℕ) (has : 0 < surplus_at h.work.now p) where
       subst (λ (x : List ℕ). Preflow ls x ws₂ a b × (left n ws₂ < left n ws)) (sym tried.0)
       (subst (λ (x : List SiteWork). Preflow ls ms x a b × (left n x < left n ws)) (sym same)
       (raise_keeps ls ms ws a b p h.marked (joined_in h) f has h.pair.net.few_lines (omega (arith, h.kept)) a_in na nb tried.2))
+
+-- one more line over which nothing goes down from p, where both its directions left marks and table as they were
+pub level_more : (ls : List Line) (ms ms₁ ms₂ ms₃ : List ℕ) (ws ws₁ ws₂ ws₃ : List SiteWork) (p k : ℕ) →
+    (ms₁ ≡ ms) × (ws₁ ≡ ws) × Level ls ms ws p k →
+    (ms₂ ≡ ms₁) × (ws₂ ≡ ws₁) × (tail (line_at ls k) true ≡ p → falls ls ms₁ ws₁ k true ≡ false) →
+    (ms₃ ≡ ms₂) × (ws₃ ≡ ws₂) × (tail (line_at ls k) false ≡ p → falls ls ms₂ ws₂ k false ≡ false) →
+    (ms₃ ≡ ms) × (ws₃ ≡ ws) × Level ls ms ws p (k + 1)
+level_more ls ms ms₁ ms₂ ms₃ ws ws₁ ws₂ ws₃ p k old forth back = (
+  back.0 ∙ forth.0 ∙ old.0,
+  back.1 ∙ forth.1 ∙ old.1,
+  λ i e lt at. elim (cases_eq i k) [
+    | inl eq ↦ subst (λ (x : ℕ). falls ls ms ws x e ≡ false) (sym eq) (here e (subst (λ (x : ℕ). tail (line_at ls x) e ≡ p) eq at))
+    | inr ne ↦ old.2 i e (omega arith) at
+  ],
+)
+  where
+    here : (e : Bool) → tail (line_at ls k) e ≡ p → falls ls ms ws k e ≡ false
+    here true at = let f = forth.2 at in cc
+    here false at = let f = back.2 at in cc

@@ -91,7 +91,9 @@ impl Hand<'_> {
     }
 
     // Looks for a way from a to b over lines that can still carry, layer by layer. Where there is none, the places seen
-    // are all that can be reached from a.
+    // are all that can be reached from a. It is part of its callers' code, so that their hand lies in registers: called with the
+    // hand's address, a round would fetch where the table is anew for each line, since it may have written there.
+    #[inline(always)]
     pub fn search(&mut self) -> bool
         ensures same { SameHand self.old self.new }
         ensures marks { self.new.marks.now ≡ self.old.marks.now }

@@ -20,9 +20,9 @@ fn taken<'a>(
     ensures asked { IfSome result (λ q. (q.net.sites ≡ sites) × (q.net.lines.now ≡ lines.now) × (q.a ≡ a) × (q.b ≡ b)) }
     ensures declined { IfNone result (Task sites lines.now a b marks.now work.now → ⊥) }
 {
-    let pair = Pair::new(sites, lines, a, b)?;
+    // asked first, so that no line is looked at where what was lent is too short
     if lines.len() <= marks.len() && sites <= work.len() {
-        Some(pair)
+        Pair::new(sites, lines, a, b)
     } else {
         None
     }

@@ -1,5 +1,5 @@
 -- Laws of chains of lines and of separate routes.
-use Rattle.std.proofs.Common.{◌≡◌, ℕ, zero, suc, ◌<◌, Bool, true, false, not, ◌&&◌, ◌||◌, eqb, ltb, ◌≢◌, ◌⊎◌, List, [], ◌∷◌, ◌++◌, length, get_or, take, drop, sym, refl, ap, ◌∙◌, ap₂, inl, inr, arith}
+use Rattle.std.proofs.Common.{◌≡◌, ℕ, zero, suc, ◌<◌, ◌≤◌, Bool, true, false, not, ◌&&◌, ◌||◌, eqb, ltb, ◌≢◌, ◌⊎◌, List, [], ◌∷◌, ◌++◌, length, get_or, take, drop, sym, refl, ap, ◌∙◌, ap₂, inl, inr, arith}
 use mathlib.Core.Bool.{or_assoc, and_assoc}
 use Rattle.std.proofs.lemmas.Bool.{eqb-true, eq-eqb, ne_eqb, lt-ltb, ltb-true, cases_eq, cases_Bool, both_ways, false≢true, and_parts, and_from, or_cases, or_parts, or_from, or_left, or_right, not-true, not_from_false}
 use Rattle.network.specs.declared.line.Line.{Line}
@@ -149,6 +149,19 @@ module _ (ls : List Line) where
   stops_drop x r zero = refl
   stops_drop x [] (suc i) = refl
   stops_drop x (p ∷ r) (suc i) = stops_drop (other_end (line_at ls p) x) r i
+
+  -- the first i lines end at the place i of those that the chain passes, x itself at 0
+  pub end_of_take : (x : ℕ) (r : List ℕ) (i d : ℕ) → i ≤ length r → end_of ls x (take i r) ≡ get_or (x ∷ stops ls x r) i d
+  unfolding stops end_of
+  end_of_take x r zero d l = refl
+  end_of_take x [] (suc i) d l = absurd (let z : ⊥ = omega arith in z)
+  end_of_take x (p ∷ r) (suc i) d l = end_of_take (other_end (line_at ls p) x) r i d (omega arith)
+
+  -- a chain ends where it starts or at one of its stops
+  pub end_of_among : (x : ℕ) (r : List ℕ) → among (x ∷ stops ls x r) (end_of ls x r) ≡ true
+  unfolding stops end_of
+  end_of_among x [] = among_here x []
+  end_of_among x (p ∷ r) = among_later x _ _ (end_of_among (other_end (line_at ls p) x) r)
 
   -- a chain from one side of a set to the other has a line whose ends the set parts
   pub chain_parted : (m : ℕ → Bool) (x : ℕ) (r : List ℕ) → chained ls x r ≡ true → differ (m x) (m (end_of ls x r)) ≡ true

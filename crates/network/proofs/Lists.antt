@@ -29,6 +29,12 @@ among_nil x = refl
 pub among_none : (x : ℕ) → among [] x ≡ true → ⊥
 among_none x h = both_ways (among [] x) (among_nil x) h
 
+-- not in the list: neither its first element nor in the rest
+pub among_not : (y x : ℕ) (ys : List ℕ) → among (y ∷ ys) x ≡ false → (y ≢ x) × (among ys x ≡ false)
+unfolding among
+among_not y x ys h =
+    let p = or_parts (eqb y x) (among ys x) h in (λ e. both_ways (eqb y x) p.0 (eq-eqb y x e), p.1)
+
 pub among_append : (xs ys : List ℕ) (x : ℕ) → among (xs ++ ys) x ≡ (among xs x || among ys x)
 unfolding among
 among_append [] ys x = refl

@@ -25,8 +25,9 @@ impl<'a> Pair<'a> {
         ensures places { IfSome result (λ p. (p.a ≡ a) × (p.b ≡ b)) }
         ensures none { IfNone result (Fits sites lines.now → a < sites → b < sites → a ≢ b → ⊥) }
     {
-        let net = Network::new(sites, lines)?;
+        // asked first, so that no line is looked at for places that are no two of the network
         if a != b && a < sites && b < sites {
+            let net = Network::new(sites, lines)?;
             Some(Pair { net, a, b })
         } else {
             None

@@ -119,6 +119,11 @@ pub ready_sized : (q : Pair) (ms : List ℕ) (v k : ℕ) → Ready q ms v k → 
 ready_sized q ms v k h =
     record { marks_room = h.marks_room; enough = h.enough; small = value_le q.net.lines.now ms q.a q.b v q.apart h.carried.balanced }
 
+-- .. and so are the numbers of a fit call
+pub fit_sized : (m : Marking) (k : ℕ) → FitBy m k → Sized m.lines.now m.marks.now m.value k
+fit_sized m k h =
+    record { marks_room = h.marks_room; enough = h.enough; small = value_le m.lines.now m.marks.now m.a m.b m.value h.apart h.carried.balanced }
+
 module _ (m : Marking) (q : Pair) (of : PairOf m q) where
   -- what is said of the pair is said of the marking's places
   pub of_pair : (P : ℕ → List Line → ℕ → ℕ → Type 0) → P q.net.sites q.net.lines.now q.a q.b → P m.sites m.lines.now m.a m.b

@@ -3,6 +3,7 @@
 ghost use Rattle.std.specs.Prelude.{◌≡◌, ◌==◌, nat_eq};
 ghost use Rattle.network.specs.Routes.{other_end};
 ghost use Rattle.routes.specs.Ends.{counts_at, carried_at};
+ghost use Rattle.routes.specs.Walks.{source_of};
 
 use network::Line;
 
@@ -33,6 +34,13 @@ pub fn carried_at(end: End, lines: &[Line], marks: &[u8], place: usize) -> usize
         .zip(marks)
         .filter(|(line, mark)| carries_at(end, line, **mark, place))
         .count()
+}
+
+/// Where a line that carries comes from.
+pub fn source(line: &Line, mark: u8) -> usize
+    ensures { result ≡ source_of line.now mark }
+{
+    usize::from(if mark == 1 { line.first } else { line.second })
 }
 
 /// Where the line leads from the place.

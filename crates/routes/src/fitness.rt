@@ -16,6 +16,10 @@ impl<'a> Marking<'a> {
         ensures ready { IfSome result (λ q. Ready q self.now.marks.now self.now.value k) }
         ensures none { IfNone result (FitBy self.now k → ⊥) }
     {
+        // asked first, so that no line is looked at for numbers that fit no marks
+        if !self.is_sized(self.lines, k) {
+            return None;
+        }
         let pair = self.pair()?;
         if self.is_ready(&pair, k) {
             Some(pair)

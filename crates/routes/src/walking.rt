@@ -7,7 +7,7 @@ ghost use Rattle.network.specs.Routes.{chained, stops, touches, other_end};
 ghost use Rattle.network.specs.Flow.{mark_at, arrives, ins};
 ghost use Rattle.routes.specs.Walks.{carriers, Way, Supplies, Back};
 
-use crate::arcs::{End, carries_at, far_end};
+use crate::arcs::{End, carries_at, far_end, source};
 use network::{Line, Network, Pair};
 
 /// A line that carries to the place, where there is one.
@@ -87,7 +87,7 @@ pub fn walk(pair: &Pair<'_>, left: &mut [u8], path: &mut [u16]) -> usize
     let mut place = pair.b;
     'back: while place != pair.a {
         let line = arriving(pair.net.lines, left, place);
-        let before = far_end(&pair.net.lines[line], place);
+        let before = source(&pair.net.lines[line], left[line]);
         take_out(left, line);
         top = extend(&pair.net, path, top, place, line, before);
         place = before;
