@@ -172,6 +172,12 @@ module _ (ls : List Line) (ms : List ℕ) (a d : ℕ) where
   round_idle false true back ws₀ ws ws₁ ws₂ i off old f b = absurd (true≢false off)
   round_idle true forth back ws₀ ws ws₁ ws₂ i off old f b = absurd (true≢false off)
 
+  -- the same round by other names
+  pub round_as : (found found' : Bool) (Done : ℕ → Bool → Type 0) (ws ws' : List SiteWork) → found' ≡ found → ws' ≡ ws →
+      Round ls ms a d found Done ws → Round ls ms a d found' Done ws'
+  round_as found found' Done ws ws' f w r =
+      subst (λ (x : Bool). Round ls ms a d x Done ws') (sym f) (subst (λ (x : List SiteWork). Round ls ms a d found Done x) (sym w) r)
+
   -- a line whose layers do not add up reaches nothing
   no_reach : (ws : List SiteWork) (i : ℕ) (e : Bool) → adds_up d (line_at ls i) ws ≡ false → reaches ls ms d i e ws ≡ false
   no_reach ws i true off = grind (arith, nat_tests)
