@@ -43,10 +43,11 @@ impl<E: Engine> Trial<'_, E> {
     fn open_in_vain(&mut self) -> anyhow::Result<()> {
         let file = worked_bytes();
         let shorter = file.split_last().map_or(file, |(_, rest)| rest);
-        let mut other = file.to_vec(self.rt.alloc())?;
-        if let Some(letter) = other.get_mut(3) {
-            *letter = b'S';
+        let mut other = [0; 76];
+        for (to, from) in other.iter_mut().zip(file) {
+            *to = *from;
         }
+        other[3] = b'S';
         self.open("open without the last byte", shorter, 9)?;
         self.open("open with another letter", &other, 9)?;
         self.open("open nothing", &[], 9)?;

@@ -17,13 +17,19 @@ impl<E: Engine> Session<'_, E> {
         Ok(ControlFlow::Continue(()))
     }
 
-    /// Answers each line of the input until it ends or the planner quits.
+    /// Answers each line of the input until it ends or the planner quits. All lines are read into one list: an iterator over
+    /// them would ask for memory at each line, and the session could end where none is left.
     pub fn serve(&mut self) -> anyhow::Result<()> {
         let rt = self.rt;
-        let input = BufReader::new(rt.alloc(), rt.stdin())?;
-        for bytes in input.split(rt.alloc(), b'\n') {
-            let bytes = bytes?;
-            if self.answer_line(&bytes)?.is_break() {
+        let mut input = BufReader::new(rt.alloc(), rt.stdin())?;
+        let mut bytes = Vec::new(rt.alloc());
+        for _ in 0..u64::MAX {
+            bytes.clear();
+            if input.read_until(b'\n', &mut bytes)? == 0 {
+                break;
+            }
+            let line = bytes.strip_suffix(b"\n").unwrap_or(&bytes);
+            if self.answer_line(line)?.is_break() {
                 break;
             }
         }

@@ -79,10 +79,11 @@ impl Case<'_> {
             b: *b,
             value: *value,
         };
-        print!(self.rt; " {a}-{b}: {k} of {value} into {room}: ")?;
-        match take(&marking, *k, *room) {
-            Ok(()) => println!(self.rt; "routes walk")?,
-            Err(fault) => println!(self.rt; "{fault}")?,
+        // taken before a word of the row is written
+        let taken = take(&marking, *k, *room);
+        match taken {
+            Ok(()) => println!(self.rt; " {a}-{b}: {k} of {value} into {room}: routes walk")?,
+            Err(fault) => println!(self.rt; " {a}-{b}: {k} of {value} into {room}: {fault}")?,
         }
         Ok(())
     }
