@@ -50,7 +50,8 @@ impl Way {
         requires { self.line < length hand.now.pair.net.lines.now }
         ensures { result ≡ arc hand.now.pair.net.lines.now hand.now.marks.now self.line self.from_first }
     {
-        hand.pair.net.lines[self.line].is_free() && hand.marks[self.line] != self.code()
+        // the mark first: where many lines join the same places it settles most of the questions
+        hand.marks[self.line] != self.code() && hand.pair.net.lines[self.line].is_free()
     }
 
     // Sends one unit this way: an unused line starts to carry, one that carries the other way stops.
